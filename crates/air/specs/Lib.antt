@@ -1,0 +1,12 @@
+pub mod Refusals
+pub mod RefusalsLaws
+pub mod Readings
+pub mod Halving
+pub mod Inverse
+pub mod Answers
+pub mod Search
+pub mod HalvingLaws
+pub mod ReadingsLaws
+pub mod InverseLaws
+pub mod OneOutcome
+pub mod Examples

@@ -1,0 +1,40 @@
+-- Demand 1, over any order of refusals: a call tells refusal n exactly when n's condition holds and none before it does, and gives its values
+-- exactly when no condition holds. Every entry's promise is an equation with `first`, so this law speaks of each. Assumes nothing.
+use mathlib.Core.Path.{_≡_, refl, sym, ap, _∙_}
+use mathlib.Core.Bool.{Bool, true, false}
+use mathlib.Core.List.{List, [], _∷_}
+use mathlib.Core.Logic.{_⊎_, inl, inr, ⊎-elim}
+use Rattle.air.specs.Refusals.{Told, gives, Line, toldBy, condition, first, First, here, after, Clear, none, clear}
+
+-- by the two values of a test
+pub by-bool {ℓ} : {X : Type ℓ} (b : Bool) → (b ≡ true → X) → (b ≡ false → X) → X
+by-bool true f g = f refl
+by-bool false f g = g refl
+
+-- an order has a first line whose condition holds, or none
+pub first-or-clear : (ls : List Line) → ((l : Line) × First ls l) ⊎ Clear ls
+first-or-clear [] = inr none
+first-or-clear (l ∷ ls) =
+    by-bool (condition l)
+    (λ h. inl (l, here h))
+    (λ h. ⊎-elim (λ w. inl (w .0, after h (w .1))) (λ w. inr (clear h w)) (first-or-clear ls))
+
+module _ {A : Type 0} (a : A) where
+  -- a refusal is given where its condition is the first that holds
+  pub refusal-given : {ls : List Line} {l : Line} → First ls l → first ls a ≡ toldBy l
+  refusal-given (here h) = rw h refl
+  refusal-given (after h f) = rw h (refusal-given f)
+
+  -- the values are given where no condition holds
+  pub values-given : {ls : List Line} → Clear ls → first ls a ≡ gives a
+  values-given none = refl
+  values-given (clear h f) = rw h (values-given f)
+
+  -- and only then: whatever is told is the first refusal that holds, or the values with none that holds
+  pub told-exactly : (ls : List Line) (t : Told A) → first ls a ≡ t → ((l : Line) × First ls l × (toldBy l ≡ t)) ⊎ (Clear ls × (gives a ≡ t))
+  told-exactly ls t e =
+      ⊎-elim (λ w. inl (w .0, w .1, sym (refusal-given (w .1)) ∙ e)) (λ w. inr (w, sym (values-given w) ∙ e)) (first-or-clear ls)
+
+-- an answer whose telling can be read back is the only one that tells the same
+pub one-told : {A R : Type 0} (paper : R → Told A) (back : Told A → R) → ((r : R) → back (paper r) ≡ r) → {t : Told A} (r s : R) → paper r ≡ t → paper s ≡ t → r ≡ s
+one-told paper back left r s p q = sym (left r) ∙ ap back (p ∙ sym q) ∙ left s

@@ -1,0 +1,57 @@
+// The inner doors of air: what the gas above needs of it. Their callers have tested the ranges.
+use crate::Millikelvin;
+ghost use mathlib.Core.Path.{_≡_};
+ghost use mathlib.Core.List.{_++_};
+ghost use Prim.Native.Nat.{_≤_, _<_, _/_};
+ghost use lib.IntN.{pos};
+ghost use lib.ListN.{length, drop, replicate};
+ghost use Rattle.signed.specs.Zed.{inZ};
+ghost use Rattle.rows.specs.Table.{column};
+ghost use Rattle.air.specs.Readings.{reading, between, NeverFalls};
+
+// Whether the table covers a temperature.
+pub fn covered(t: Millikelvin) -> bool
+    ensures { λ r. ⌜ r ≡ inZ (pos 200000) (pos 2000000) (t .0) ⌝ }
+{
+    signed::inside(t.0, 200000, 2000000)
+}
+
+// A figure a with b the next kelvin's, read f mK above a.
+pub fn reading_of(a: u64, b: u64, f: u64) -> u64
+    requires { ⌜ (a ≤ b) × (b < 4294967296) × (f < 1000) ⌝ }
+    ensures { λ r. ⌜ r ≡ reading a b f ⌝ }
+{
+    1000 * a + f * (b - a)
+}
+
+// A column that never falls, read at a temperature in mK; at 2,000,000 mK no row is read but the last.
+pub fn read(rows: &[u32; 1801], mk: u64) -> u64
+    requires { ⌜ (200000 ≤ mk) × (mk ≤ 2000000) × NeverFalls (column (now rows)) ⌝ }
+    ensures { λ r. ⌜ r ≡ between (column (now (rows .entry))) mk ⌝ }
+{
+    if mk == 2000000 {
+        return 1000 * rows::figure(rows, 2000);
+    }
+    let k = mk / 1000;
+    reading_of(rows::figure(rows, k), rows::figure(rows, k + 1), mk % 1000)
+}
+
+// The one division after a search: the whole mK in what lies over the kelvin that was kept, where each mK rises by the slope.
+pub fn thousandths(over: u64, slope: u64) -> u64
+    requires { ⌜ 0 < slope ⌝ }
+    ensures { λ r. ⌜ r ≡ over / slope ⌝ }
+{
+    over / slope
+}
+
+// Sets the first eleven places of a list of looks to 0.
+pub fn clear(looks: &mut [u32])
+    requires { ⌜ 11 ≤ length (now looks) ⌝ }
+    ensures { λ _. ⌜ now (looks .exit) ≡ replicate 11 0 ++ drop 11 (now (looks .entry)) ⌝ }
+{
+    let mut i = 0;
+    while i < 11 {
+        looks[i] = 0;
+        i += 1;
+    }
+}

@@ -1,0 +1,89 @@
+// Dry air from 200 K to 2,000 K (document 01, "The air table"): heat, psi and Cp read from Table 1, and the temperature of a psi.
+// Every call takes any signed number and promises an equation: what the answer tells, in the paper's numbers (specs/Answers.antt), is the first
+// refusal of its order whose condition holds (specs/Refusals.antt), else the table's reading (specs/Readings.antt, specs/Inverse.antt).
+// The halving theory of specs/ is stated over any value by temperature, for the gas above as for psi here.
+pub mod inner;
+mod search;
+
+ghost use mathlib.Core.Path.{_≡_};
+ghost use Rattle.air.specs.Answers.{paperReading, heatTold, psiTold, cpTold, PsiInverse};
+
+// A temperature in thousandths of a kelvin.
+pub struct Millikelvin(pub i64);
+
+// A refusal by its number in document 01; for 2 and 3 with the first bad row.
+pub enum Refusal {
+    Plain(u32),
+    AtRow(u32, u32),
+}
+
+// A number read from the table, or the refusal.
+pub enum Reading {
+    Is(u64),
+    Refused(Refusal),
+}
+
+// The temperature of a psi with the rest, or the refusal.
+pub enum PsiAnswer {
+    At(Millikelvin, u64),
+    Refused(Refusal),
+}
+
+// temperature outside range
+pub const TEMPERATURE: u32 = 6;
+// target below the value at 200 K
+pub const BELOW: u32 = 8;
+// target above the value at 2,000 K
+pub const ABOVE: u32 = 9;
+// a lent list too short for what is to be written
+pub const LIST_SHORT: u32 = 10;
+
+// The heat of air per pound at a temperature, in 0.00001 C.H.U./lb.
+pub fn heat(t: Millikelvin) -> Reading
+    ensures { λ r. ⌜ paperReading r ≡ heatTold (t .0) ⌝ }
+{
+    if !inner::covered(t) {
+        return Reading::Refused(Refusal::Plain(TEMPERATURE));
+    }
+    let heats = rows::columns::heat_column();
+    Reading::Is(inner::read(&heats, signed::to_u64(t.0)))
+}
+
+// psi at a temperature, in 0.0000001.
+pub fn psi(t: Millikelvin) -> Reading
+    ensures { λ r. ⌜ paperReading r ≡ psiTold (t .0) ⌝ }
+{
+    if !inner::covered(t) {
+        return Reading::Refused(Refusal::Plain(TEMPERATURE));
+    }
+    let psis = rows::columns::psi_column();
+    Reading::Is(inner::read(&psis, signed::to_u64(t.0)))
+}
+
+// Cp at a whole number of kelvins, in ten-thousandths, as printed.
+pub fn cp(kelvin: i64) -> Reading
+    ensures { λ r. ⌜ paperReading r ≡ cpTold kelvin ⌝ }
+{
+    if !signed::inside(kelvin, 200, 2000) {
+        return Reading::Refused(Refusal::Plain(TEMPERATURE));
+    }
+    let printed = rows::columns::cp_column();
+    Reading::Is(rows::figure(&printed, signed::to_u64(kelvin)))
+}
+
+// The greatest temperature whose psi is at most the target, with the rest. The looks go into the first eleven places of the list, 0 where unused.
+pub fn psi_inverse(target: i64, looks: &mut [u32]) -> PsiAnswer
+    ensures { λ r. ⌜ PsiInverse target (now (looks .entry)) r (now (looks .exit)) ⌝ }
+{
+    if looks.len() < 11 {
+        return PsiAnswer::Refused(Refusal::Plain(LIST_SHORT));
+    }
+    let column = rows::columns::psi_column();
+    if target < signed::of_u64(1000 * rows::figure(&column, 200)) {
+        return PsiAnswer::Refused(Refusal::Plain(BELOW));
+    }
+    if signed::of_u64(1000 * rows::figure(&column, 2000)) < target {
+        return PsiAnswer::Refused(Refusal::Plain(ABOVE));
+    }
+    search::psi_reached(signed::to_u64(target), looks, &column)
+}

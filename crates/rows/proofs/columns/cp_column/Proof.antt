@@ -1,0 +1,11 @@
+use mathlib.Core.Path.{refl}
+use Rattle.rows.specs.Rows.{rowsCp}
+use Rattle.rows.proofs.columns.cp_column.Statement.{statement}
+use Rattle.rows.proofs.columns.cp_column.Tie as tie
+
+returns : tie.Need-returns
+unfolding rowsCp
+returns c = refl
+
+pub cp-column-spec : {M : Type 1} → statement M
+cp-column-spec = tie.close (tie.spec returns)

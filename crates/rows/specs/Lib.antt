@@ -1,0 +1,4 @@
+pub mod Rows
+pub mod Table
+pub mod Growth
+pub mod TableLaws
