@@ -16,7 +16,7 @@ use native.Mathlib.Numerals.{add-one}
 use native.Mathlib.Omega.{arith}
 use lib.Dec.{leb, lit<, lit≤}
 use lib.Pow.{pow-pos}
-use lib.ListN.{length, drop, replicate, set, length-set, length-append}
+use lib.ListN.{length, drop, replicate, set, length-set, length-append, length-replicate}
 use lib.Seq.{sets, sets-eq, drop-append-le}
 use Rattle.air.specs.Halving.{middle, Search, looked, stopped, halvings, halving, highestBy, highest, eleven, Room, Halved}
 use Rattle.air.specs.RefusalsLaws.{by-bool}
@@ -173,6 +173,19 @@ passes-by p from (suc n) e =
     (λ h. rw h (h, omega arith, omega arith))
     (λ h. let k = passes-by p from n e in rw h (k .0, k .1, omega (arith, k .2)))
 
+-- above the highest none passes
+fails-by : (p : ℕ → Bool) (from n u : ℕ) → highestBy p from n < u → u ≤ from + n → p u ≡ false
+unfolding highestBy
+fails-by p from zero u a b = absurd (omega arith)
+fails-by p from (suc n) u a b =
+    by-bool (p (from + suc n))
+    (λ h. absurd (let k : from + suc n < u = rw h at a in omega arith))
+    (λ h. ⊎-elim (λ e. ap p e ∙ h) (λ c. fails-by p from n u (rw h at a) (omega arith)) (eq-or-lt-of-le b))
+
+pub highest-above : (p : ℕ → Bool) (from to u : ℕ) → from ≤ to → highest p from to < u → u ≤ to → p u ≡ false
+unfolding highest
+highest-above p from to u l a b = fails-by p from (to - from) u a (omega arith)
+
 module _ (p : ℕ → Bool) (from to : ℕ) (l : from ≤ to) (e : p from ≡ true) where
   pub highest-passes : p (highest p from to) ≡ true
   unfolding highest
@@ -227,6 +240,10 @@ drop-replicate : (n m v : ℕ) → drop n (replicate m v) ≡ replicate (m - n) 
 drop-replicate zero m v = ap (λ (k : ℕ). replicate k v) {x = m} {y = m - 0} (omega arith)
 drop-replicate (suc n) zero v = ap (λ (k : ℕ). replicate k v) {x = 0} {y = 0 - suc n} (omega arith)
 drop-replicate (suc n) (suc m) v = drop-replicate n m v ∙ ap (λ (k : ℕ). replicate k v) {x = m - n} {y = suc m - suc n} (omega arith)
+
+pub length-eleven : (xs : List ℕ) → length xs ≤ 11 → length (eleven xs) ≡ 11
+unfolding eleven
+length-eleven xs h = length-append xs (replicate (11 - length xs) 0) ∙ omega (arith, length-replicate {A = ℕ} (11 - length xs) 0)
 
 pub looks-placed : (l vs : List ℕ) → length vs ≤ 11 → sets (replicate 11 0 ++ l) 0 vs ≡ eleven vs ++ l
 unfolding eleven

@@ -11,11 +11,12 @@ use lib.Dec.{lit<, lit≤}
 use lib.IntN.{ℤ, pos, _+ℤ_, _-ℤ_}
 use lib.ListN.{length}
 use lib.Signed.{_≤ℤ_, _<ℤ_}
-use Rattle.signed.specs.Zed.{up, dn, Is, is-pos, is-self, is-add, is-minus, same-by, le-by, lt-by, le-from, lt-from, leZ-true, lt-parts, le-parts, yes-leZ, no-leZ, yes-eqZ, no-eqZ, zed}
+use Rattle.signed.specs.Zed.{up, dn, Is, is-pos, is-self, is-add, is-minus, same-by, le-by, lt-by, le-from, lt-from, leZ-true, leZ-false, lt-parts, le-parts, yes-leZ, no-leZ, eqZ, yes-eqZ, no-eqZ, zed}
 use Rattle.rows.specs.Growth.{grows}
 use Rattle.air.specs.Halving.{highest, halving}
-use Rattle.air.specs.HalvingLaws.{highest-is, highest-passes, highest-least, highest-most, Kept, kept, at-least-ten, at-most-eleven}
+use Rattle.air.specs.HalvingLaws.{highest-is, highest-passes, highest-least, highest-most, highest-above, Kept, kept, at-least-ten, at-most-eleven}
 use Rattle.air.specs.Inverse.{fits, temperature, rest, looks, written, Straight}
+use Rattle.air.specs.RefusalsLaws.{by-bool}
 use Rattle.air.specs.Refusals.{Line, _when_, _on-row_when_, toldBy}
 
 <ℤ-trans : {x y z : ℤ} → x <ℤ y → y <ℤ z → x <ℤ z
@@ -36,6 +37,11 @@ module _ (v : ℕ → ℤ) (t : ℤ) where
   unfolding looks
   looks-are h = rw (no-eqZ t (v 2000000) h) refl
 
+  -- never more than eleven
+  pub looks-most : length (looks v t) ≤ 11
+  unfolding looks
+  looks-most = by-bool (eqZ t (v 2000000)) (λ e. rw e (lit≤ tt)) (λ e. rw e (at-most-eleven (λ k. fits v t (1000 * k))))
+
   -- ten or eleven where there is a search
   pub ten-or-eleven : t <ℤ v 2000000 → (10 ≤ length (looks v t)) × (length (looks v t) ≤ 11)
   ten-or-eleven h = rw (looks-are h) (at-least-ten (λ k. fits v t (1000 * k)), at-most-eleven (λ k. fits v t (1000 * k)))
@@ -46,6 +52,13 @@ module _ (v : ℕ → ℤ) (t : ℤ) where
       let a = le-parts l in
       let b = lt-parts h in
       kept (λ k. fits v t (1000 * k)) 200 2000 (lit< tt) (yes-leZ (v 200000) t (omega arith)) (no-leZ (v 2000000) t (omega arith))
+
+  -- at the next mK the value exceeds the target
+  pub next-exceeds : temperature v t < 2000000 → t <ℤ v (suc (temperature v t))
+  unfolding temperature
+  next-exceeds h =
+      let e : fits v t (suc (highest (fits v t) 200000 2000000)) ≡ false = highest-above (fits v t) 200000 2000000 (suc (highest (fits v t) 200000 2000000)) (lit≤ tt) (omega arith) h in
+      lt-from (leZ-false (v (suc (highest (fits v t) 200000 2000000))) t e)
 
   -- a target that is the last value
   pub top-temperature : t ≡ v 2000000 → temperature v t ≡ 2000000

@@ -4,7 +4,9 @@ use mathlib.Core.Path.{_≡_, refl, sym, ap, _∙_}
 use mathlib.Core.Bool.{Bool, true, false}
 use mathlib.Core.List.{List, [], _∷_}
 use mathlib.Core.Logic.{_⊎_, inl, inr, ⊎-elim}
-use Rattle.air.specs.Refusals.{Told, gives, Line, toldBy, condition, first, First, here, after, Clear, none, clear}
+use Prim.Native.Nat.{ℕ}
+use native.Mathlib.Omega.{arith}
+use Rattle.air.specs.Refusals.{Told, gives, Line, _when_, _on-row_when_, toldBy, condition, first, First, here, after, Clear, none, clear}
 
 -- by the two values of a test
 pub by-bool {ℓ} : {X : Type ℓ} (b : Bool) → (b ≡ true → X) → (b ≡ false → X) → X
@@ -34,6 +36,14 @@ module _ {A : Type 0} (a : A) where
   pub told-exactly : (ls : List Line) (t : Told A) → first ls a ≡ t → ((l : Line) × First ls l × (toldBy l ≡ t)) ⊎ (Clear ls × (gives a ≡ t))
   told-exactly ls t e =
       ⊎-elim (λ w. inl (w .0, w .1, sym (refusal-given (w .1)) ∙ e)) (λ w. inr (w, sym (values-given w) ∙ e)) (first-or-clear ls)
+
+-- where the values are given, no condition holds, and they are the call's own
+pub gives-clear : {A : Type 0} (ls : List Line) {a b : A} → first ls a ≡ gives b → Clear ls × (a ≡ b)
+gives-clear ls {a} {b} e = ⊎-elim (λ w. absurd (no-values (w .0) b (w .2))) (λ w. (w .0, let h : gives a ≡ gives b = w .1 in cc)) (told-exactly a ls (gives b) e)
+  where
+    no-values : {A : Type 0} (l : Line) (b : A) → toldBy l ≡ gives b → ⊥
+    no-values (n when c) b h = let z : _≡_ {A = ℕ} 0 1 = cc in omega arith
+    no-values (n on-row r when c) b h = let z : _≡_ {A = ℕ} 0 1 = cc in omega arith
 
 -- an answer whose telling can be read back is the only one that tells the same
 pub one-told : {A R : Type 0} (paper : R → Told A) (back : Told A → R) → ((r : R) → back (paper r) ≡ r) → {t : Told A} (r s : R) → paper r ≡ t → paper s ≡ t → r ≡ s

@@ -41,7 +41,7 @@ fn divide(target: u64, row: u64, a: u64, b: u64) -> PsiAnswer
 }
 
 // The answer to a target that the table reaches.
-pub fn psi_reached(target: u64, looks: &mut [u32], psi: &[u32; 1801]) -> PsiAnswer
+pub(crate) fn psi_reached(target: u64, looks: &mut [u32], psi: &[u32; 1801]) -> PsiAnswer
     requires { ⌜ (now psi ≡ rowsPsi) × (11 ≤ length (now looks)) × (1000 * airPsi 200 ≤ target) × (target ≤ 1000 * airPsi 2000) ⌝ }
     ensures { λ r. ⌜ PsiSearched target (now (looks .entry)) r (now (looks .exit)) ⌝ }
 {

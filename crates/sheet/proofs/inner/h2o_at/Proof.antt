@@ -1,0 +1,31 @@
+use borrow.Author.Needs.{needs}
+use Rattle.sheet.specs.Sheet.{h2o}
+use Rattle.sheet.proofs.inner.h2o_at.Statement.{statement}
+use Rattle.sheet.proofs.inner.h2o_at.Tie as tie
+
+sub-wide : tie.Need-sub-wide
+sub-wide c = search needs
+
+mul-wide : tie.Need-mul-wide
+mul-wide c = search needs
+
+add-wide : tie.Need-add-wide
+add-wide c = search needs
+
+mul-wide-2 : tie.Need-mul-wide-2
+mul-wide-2 c = search needs
+
+shared-slice-read-wide : tie.Need-shared-slice-read-wide
+shared-slice-read-wide c = search needs
+
+wide-requires : tie.Need-wide-requires
+wide-requires c κs = search needs
+
+returns : tie.Need-returns
+unfolding h2o
+returns c = c .wide .ensures
+
+pub h2o-at-spec : {M : Type 1} → statement M
+h2o-at-spec =
+    tie.close
+    (tie.spec sub-wide mul-wide add-wide mul-wide-2 shared-slice-read-wide wide-requires returns)

@@ -1,0 +1,27 @@
+use borrow.Author.Needs.{needs}
+use Rattle.sheet.specs.Sheet.{o2}
+use Rattle.sheet.proofs.inner.o2_at.Statement.{statement}
+use Rattle.sheet.proofs.inner.o2_at.Tie as tie
+
+sub-wide : tie.Need-sub-wide
+sub-wide c = search needs
+
+mul-wide : tie.Need-mul-wide
+mul-wide c = search needs
+
+mul-wide-2 : tie.Need-mul-wide-2
+mul-wide-2 c = search needs
+
+shared-slice-read-wide : tie.Need-shared-slice-read-wide
+shared-slice-read-wide c = search needs
+
+wide-requires : tie.Need-wide-requires
+wide-requires c κs = search needs
+
+returns : tie.Need-returns
+unfolding o2
+returns c = c .wide .ensures
+
+pub o2-at-spec : {M : Type 1} → statement M
+o2-at-spec =
+    tie.close (tie.spec sub-wide mul-wide mul-wide-2 shared-slice-read-wide wide-requires returns)

@@ -1,0 +1,70 @@
+-- What is told by the reader and by the judge: a text is read as a list exactly where it is the sheet of that list, and a list is good exactly where it is an
+-- accepted sheet. Assumes nothing.
+use borrow.Author.Tests.{eqb-true, ltb-false, lt-ltb, le-ltb, eq-eqb, ne-eqb}
+use mathlib.Core.Path.{_≡_, refl}
+use mathlib.Core.Bool.{Bool, true, false, not}
+use mathlib.Core.List.{List, [], _∷_, _++_}
+use Prim.Native.Nat.{ℕ, _≤_, _<_}
+use native.Mathlib.Omega.{arith}
+use lib.Dec.{ltb, eqb}
+use lib.ListN.{length}
+use Rattle.air.specs.declared.Refusal.the-variants.{Plain, AtRow}
+use Rattle.air.specs.Refusals.{gives, refuses, refusesRow, refused, Line, _when_, _on-row_when_, first}
+use Rattle.air.specs.declared.Refusal.{Refusal}
+use Rattle.sheet.specs.declared.SheetAnswer.{SheetAnswer}
+use Rattle.sheet.specs.declared.SheetAnswer.the-variants.{Good, Refused}
+use Rattle.sheet.specs.Text.{sheetText, Numbers, Sheet}
+use Rattle.sheet.specs.OneOutcome.{one-read_sheet}
+use Rattle.sheet.specs.Answers.{paper, Form, sheetOf, noSheet, breaks, badRowOf, numbersOf, SheetRead, sheetLines, judgeTold}
+use Rattle.sheet.specs.Sheet.{notLong, firstBadRow, Accepted}
+use Rattle.sheet.specs.SheetLaws.{no-bad-row, rows-before}
+
+-- ---- a text is read as a list exactly where it is the sheet of that list
+pub read-of-sheet : {before later : List ℕ} {a : SheetAnswer} (numbers : List ℕ) → Numbers numbers → length before ≡ 5403 → SheetRead (sheetText numbers) before a later → (a ≡ Good) × (later ≡ numbers)
+read-of-sheet {before} numbers g n p =
+    one-read_sheet p (record { form = sheetOf numbers (record { good = g; is = refl }); told = rw (eq-eqb (length before) 5403 n) refl; list = refl })
+
+pub sheet-of-read : {text before later : List ℕ} → SheetRead text before Good later → (length before ≡ 5403) × Sheet text later
+sheet-of-read {text} {before} {later} p = go (eqb (length before) 5403) (p .form) refl (p .told) (p .list)
+  where
+    go : (x : Bool) (f : Form text) → eqb (length before) 5403 ≡ x → gives tt ≡ first (1 when not x ∷ 2 on-row badRowOf f when breaks f ∷ []) (tt {0}) → later ≡ numbersOf f → (length before ≡ 5403) × Sheet text later
+    go false f q e l = absurd (let z : _≡_ {A = ℕ} 0 1 = cc in omega arith)
+    go true (noSheet r b) q e l = absurd (let z : _≡_ {A = ℕ} 0 1 = cc in omega arith)
+    go true (sheetOf numbers h) q e l = (eqb-true _ _ q, rw l h)
+
+-- ---- the judge of a list
+pub told-length : (s : List ℕ) → (length s ≡ 5403 → ⊥) → judgeTold s ≡ refuses 1
+told-length s n = rw (ne-eqb (length s) 5403 n) refl
+
+pub told-row : (s : List ℕ) (r : ℕ) → length s ≡ 5403 → firstBadRow s ≡ r → r < 1801 → judgeTold s ≡ refusesRow 3 r
+told-row s r n e h = rw (eq-eqb (length s) 5403 n, e, lt-ltb r 1801 h) refl
+
+pub told-good : (s : List ℕ) → length s ≡ 5403 → 1801 ≤ firstBadRow s → judgeTold s ≡ gives tt
+told-good s n h = rw (eq-eqb (length s) 5403 n, le-ltb (firstBadRow s) 1801 h) refl
+
+-- good exactly where the list is an accepted sheet
+pub told-of-accepted : {s : List ℕ} → Accepted s → judgeTold s ≡ gives tt
+told-of-accepted {s} a = told-good s (a .long) (omega (arith, no-bad-row s (a .noBadRow)))
+
+pub accepted-of-told : (s : List ℕ) → judgeTold s ≡ gives tt → Accepted s
+accepted-of-told s e = go (eqb (length s) 5403) (ltb (firstBadRow s) 1801) refl refl e
+  where
+    go : (x y : Bool) → eqb (length s) 5403 ≡ x → ltb (firstBadRow s) 1801 ≡ y → first (1 when not x ∷ 3 on-row firstBadRow s when y ∷ []) (tt {0}) ≡ gives tt → Accepted s
+    go false y p q e = absurd (let z : _≡_ {A = ℕ} 0 1 = cc in omega arith)
+    go true true p q e = absurd (let z : _≡_ {A = ℕ} 0 1 = cc in omega arith)
+    go true false p q e = record { long = eqb-true _ _ p; noBadRow = λ r h. rows-before s r (omega (arith, ltb-false (firstBadRow s) 1801 q)) }
+
+-- ---- a call that takes a sheet list tells the sheet's refusal first, and goes on where the sheet is accepted
+pub past-sheet : {A : Type 0} {s : List ℕ} (ls : List Line) (a : A) → Accepted s → first (sheetLines s ++ ls) a ≡ first ls a
+past-sheet {s} ls a h = rw (eq-eqb (length s) 5403 (h .long), no-bad-row s (h .noBadRow)) refl
+
+pub stopped-by-sheet : {A : Type 0} (s : List ℕ) (r : Refusal) (ls : List Line) (a : A) → paper (Refused r) ≡ judgeTold s → first (sheetLines s ++ ls) a ≡ refused r
+stopped-by-sheet {A} s r ls a e = go (notLong s) (ltb (firstBadRow s) 1801) r e
+  where
+    go : (x y : Bool) (r : Refusal) → refused r ≡ first (1 when x ∷ 3 on-row firstBadRow s when y ∷ []) (tt {0}) → first {A = A} (1 when x ∷ 3 on-row firstBadRow s when y ∷ ls) a ≡ refused r
+    go true y (Plain n) e = let q : 1 ≡ n = cc in rw q refl
+    go true y (AtRow n m) e = absurd (let z : _≡_ {A = ℕ} 0 1 = cc in omega arith)
+    go false true (Plain n) e = absurd (let z : _≡_ {A = ℕ} 0 1 = cc in omega arith)
+    go false true (AtRow n m) e = let p : 3 ≡ n = cc in let q : firstBadRow s ≡ m = cc in rw (p, q) refl
+    go false false (Plain n) e = absurd (let z : _≡_ {A = ℕ} 0 1 = cc in omega arith)
+    go false false (AtRow n m) e = absurd (let z : _≡_ {A = ℕ} 0 1 = cc in omega arith)

@@ -1,0 +1,154 @@
+-- The built-in sheet is accepted: one test computed over the whole list beside air's column, and carried to each row. Assumes nothing.
+use mathlib.Core.Path.{_≡_, refl, ap}
+use mathlib.Core.Bool.{Bool, true, false, _&&_}
+use mathlib.Core.List.{List, [], _∷_}
+use Prim.Native.Nat.{ℕ, zero, suc, _+_, _*_, _-_, _≤_, _<_}
+use native.Mathlib.Omega.{arith}
+use lib.Dec.{leb}
+use lib.ListN.{length, getD}
+use borrow.Author.Tests.{leb-true, le-ltb}
+use Rattle.text.specs.ReadingLaws.{and-left, and-right}
+use Rattle.rows.specs.Rows.{rowsH}
+use Rattle.rows.specs.Table.{airH, column}
+use Rattle.sheet.specs.Sheet.{o2, co2, h2o, overLimit, breaksStep, badRow, Accepted}
+use Rattle.sheet.specs.SheetLaws.{over-no, step-kept}
+use Rattle.sheet.specs.BuiltIn.{builtIn}
+
+-- ---- the test: each row against the one before, with air's figures. Row 0 is held against a row of zeros, which asks no less than the rule does
+rowKeeps : ℕ → ℕ → ℕ → ℕ → ℕ → ℕ → ℕ → ℕ → Bool
+rowKeeps a b c h d e f x = leb a d && (leb b e && (leb c f && (leb (d - a) (4 * (x - h)) && (leb d 200000 && (leb e 200000 && leb f 200000)))))
+
+keepsFrom : ℕ → ℕ → ℕ → ℕ → List ℕ → List ℕ → Bool
+keepsFrom a b c h [] hs = true
+keepsFrom a b c h (d ∷ []) hs = false
+keepsFrom a b c h (d ∷ e ∷ []) hs = false
+keepsFrom a b c h (d ∷ e ∷ f ∷ s) [] = false
+keepsFrom a b c h (d ∷ e ∷ f ∷ s) (x ∷ hs) = rowKeeps a b c h d e f x && keepsFrom d e f x s hs
+
+passes : List ℕ → List ℕ → Bool
+passes s hs = keepsFrom 0 0 0 0 s hs
+
+-- ---- what it says of each row
+cell : List ℕ → ℕ → ℕ → ℕ
+cell s i j = getD s (3 * i + j) 0
+
+cell-next : (a b c : ℕ) (s : List ℕ) (i j : ℕ) → cell (a ∷ b ∷ c ∷ s) (suc i) j ≡ cell s i j
+unfolding cell
+cell-next a b c s i j = let e : 3 * suc i + j ≡ suc (suc (suc (3 * i + j))) = omega arith in rw e refl
+
+record Kept (s hs : List ℕ) (i : ℕ) : Type 0 where
+  up : (j : ℕ) → j < 3 → cell s i j ≤ cell s (suc i) j
+  slow : cell s (suc i) 0 - cell s i 0 ≤ 4 * (getD hs (suc i) 0 - getD hs i 0)
+  most : (j : ℕ) → j < 3 → cell s (suc i) j ≤ 200000
+
+kept-next : (a b c h : ℕ) (s hs : List ℕ) (i : ℕ) → Kept s hs i → Kept (a ∷ b ∷ c ∷ s) (h ∷ hs) (suc i)
+kept-next a b c h s hs i k = record {
+  up = λ j g. rw (cell-next a b c s i j, cell-next a b c s (suc i) j) (k .up j g);
+  slow = rw (cell-next a b c s i 0, cell-next a b c s (suc i) 0) (k .slow);
+  most = λ j g. rw (cell-next a b c s (suc i) j) (k .most j g);
+}
+
+kept-first : (a b c h d e f x : ℕ) (s hs : List ℕ) → rowKeeps a b c h d e f x ≡ true → Kept (a ∷ b ∷ c ∷ d ∷ e ∷ f ∷ s) (h ∷ x ∷ hs) 0
+unfolding rowKeeps cell
+kept-first a b c h d e f x s hs t = record { up = up; slow = leb-true _ _ (and-left _ _ t3); most = most }
+  where
+    t1 : (leb b e && (leb c f && (leb (d - a) (4 * (x - h)) && (leb d 200000 && (leb e 200000 && leb f 200000))))) ≡ true
+    t1 = and-right (leb a d) _ t
+
+    t2 : (leb c f && (leb (d - a) (4 * (x - h)) && (leb d 200000 && (leb e 200000 && leb f 200000)))) ≡ true
+    t2 = and-right (leb b e) _ t1
+
+    t3 : (leb (d - a) (4 * (x - h)) && (leb d 200000 && (leb e 200000 && leb f 200000))) ≡ true
+    t3 = and-right (leb c f) _ t2
+
+    t4 : (leb d 200000 && (leb e 200000 && leb f 200000)) ≡ true
+    t4 = and-right (leb (d - a) (4 * (x - h))) _ t3
+
+    up : (j : ℕ) → j < 3 → getD (a ∷ b ∷ c ∷ d ∷ e ∷ f ∷ s) (3 * 0 + j) 0 ≤ getD (a ∷ b ∷ c ∷ d ∷ e ∷ f ∷ s) (3 * 1 + j) 0
+    up zero g = leb-true _ _ (and-left _ _ t)
+    up (suc zero) g = leb-true _ _ (and-left _ _ t1)
+    up (suc (suc zero)) g = leb-true _ _ (and-left _ _ t2)
+    up (suc (suc (suc j))) g = absurd (omega arith)
+
+    most : (j : ℕ) → j < 3 → getD (a ∷ b ∷ c ∷ d ∷ e ∷ f ∷ s) (3 * 1 + j) 0 ≤ 200000
+    most zero g = leb-true _ _ (and-left _ _ t4)
+    most (suc zero) g = leb-true _ _ (and-left _ _ (and-right (leb d 200000) _ t4))
+    most (suc (suc zero)) g = leb-true _ _ (and-right (leb e 200000) _ (and-right (leb d 200000) _ t4))
+    most (suc (suc (suc j))) g = absurd (omega arith)
+
+kept-at : (s hs : List ℕ) (a b c h i : ℕ) → keepsFrom a b c h s hs ≡ true → 3 * i < length s → Kept (a ∷ b ∷ c ∷ s) (h ∷ hs) i
+unfolding keepsFrom
+kept-at [] hs a b c h i t u = absurd (omega arith)
+kept-at (d ∷ []) hs a b c h i t u = absurd (let z : _≡_ {A = ℕ} 0 1 = cc in omega arith)
+kept-at (d ∷ e ∷ []) hs a b c h i t u = absurd (let z : _≡_ {A = ℕ} 0 1 = cc in omega arith)
+kept-at (d ∷ e ∷ f ∷ s) [] a b c h i t u = absurd (let z : _≡_ {A = ℕ} 0 1 = cc in omega arith)
+kept-at (d ∷ e ∷ f ∷ s) (x ∷ hs) a b c h zero t u = kept-first a b c h d e f x s hs (and-left _ _ t)
+kept-at (d ∷ e ∷ f ∷ s) (x ∷ hs) a b c h (suc i) t u =
+    kept-next a b c h (d ∷ e ∷ f ∷ s) (x ∷ hs) i (kept-at s hs d e f x i (and-right (rowKeeps a b c h d e f x) _ t) (omega arith))
+
+-- ---- the columns by kelvin, by row
+o2-cell : (s : List ℕ) (i k : ℕ) → k ≡ 200 + i → o2 s k ≡ cell s i 0
+unfolding o2 cell
+o2-cell s i k e = let q : 3 * (k - 200) ≡ 3 * i + 0 = omega arith in ap (λ (x : ℕ). getD s x 0) q
+
+co2-cell : (s : List ℕ) (i k : ℕ) → k ≡ 200 + i → co2 s k ≡ cell s i 1
+unfolding co2 cell
+co2-cell s i k e = let q : 3 * (k - 200) + 1 ≡ 3 * i + 1 = omega arith in ap (λ (x : ℕ). getD s x 0) q
+
+h2o-cell : (s : List ℕ) (i k : ℕ) → k ≡ 200 + i → h2o s k ≡ cell s i 2
+unfolding h2o cell
+h2o-cell s i k e = let q : 3 * (k - 200) + 2 ≡ 3 * i + 2 = omega arith in ap (λ (x : ℕ). getD s x 0) q
+
+air-row : (i k : ℕ) → k ≡ 200 + i → airH k ≡ getD rowsH i 0
+unfolding airH column
+air-row i k e = let q : k - 200 ≡ i = omega arith in simp (le-ltb k 200 (omega arith)) (ap (λ (x : ℕ). getD rowsH x 0) q)
+
+-- ---- a list that passes is accepted
+module _ (s : List ℕ) (n : length s ≡ 5403) (t : passes s rowsH ≡ true) where
+  kept : (i : ℕ) → i < 1801 → Kept (0 ∷ 0 ∷ 0 ∷ s) (0 ∷ rowsH) i
+  unfolding passes
+  kept i h = kept-at s rowsH 0 0 0 0 i t (omega arith)
+
+  most-at : (i j : ℕ) → i < 1801 → j < 3 → cell s i j ≤ 200000
+  most-at i j h g = rw (cell-next 0 0 0 s i j) at (kept i h .most j g)
+
+  up-at : (i j : ℕ) → suc i < 1801 → j < 3 → cell s i j ≤ cell s (suc i) j
+  up-at i j h g = rw (cell-next 0 0 0 s i j, cell-next 0 0 0 s (suc i) j) at (kept (suc i) h .up j g)
+
+  slow-at : (i : ℕ) → suc i < 1801 → cell s (suc i) 0 - cell s i 0 ≤ 4 * (getD rowsH (suc i) 0 - getD rowsH i 0)
+  slow-at i h = rw (cell-next 0 0 0 s i 0, cell-next 0 0 0 s (suc i) 0) at (kept (suc i) h .slow)
+
+  -- by kelvin
+  row-limit : (i k : ℕ) → k ≡ 200 + i → i < 1801 → overLimit s k ≡ false
+  row-limit i k e h = over-no s k record {
+    o2-most = omega (arith, o2-cell s i k e, most-at i 0 h (omega arith));
+    co2-most = omega (arith, co2-cell s i k e, most-at i 1 h (omega arith));
+    h2o-most = omega (arith, h2o-cell s i k e, most-at i 2 h (omega arith));
+  }
+
+  row-step : (i : ℕ) → suc i < 1801 → breaksStep s (200 + i) ≡ false
+  row-step i h = step-kept s (200 + i) record {
+    o2-up = omega (arith, o2-cell s i (200 + i) refl, o2-cell s (suc i) (suc (200 + i)) (omega arith), up-at i 0 h (omega arith));
+    co2-up = omega (arith, co2-cell s i (200 + i) refl, co2-cell s (suc i) (suc (200 + i)) (omega arith), up-at i 1 h (omega arith));
+    h2o-up = omega (arith, h2o-cell s i (200 + i) refl, h2o-cell s (suc i) (suc (200 + i)) (omega arith), up-at i 2 h (omega arith));
+    o2-rise = omega (arith, o2-cell s i (200 + i) refl, o2-cell s (suc i) (suc (200 + i)) (omega arith), air-row i (200 + i) refl, air-row (suc i) (suc (200 + i)) (omega arith), slow-at i h);
+  }
+
+  row-good : (r : ℕ) → r < 1801 → badRow s r ≡ false
+  row-good zero h = row-limit 0 200 refl h
+  row-good (suc r) h = rw (row-limit (suc r) (200 + suc r) refl h, row-step r h) refl
+
+  passed-accepted : Accepted s
+  passed-accepted = record { long = n; noBadRow = row-good }
+
+-- ---- the built-in sheet passes
+built-in-long : length builtIn ≡ 5403
+unfolding builtIn
+built-in-long = refl
+
+built-in-passes : passes builtIn rowsH ≡ true
+unfolding builtIn rowsH passes keepsFrom rowKeeps
+built-in-passes = refl
+
+pub built-in-accepted : Accepted builtIn
+built-in-accepted = passed-accepted builtIn built-in-long built-in-passes

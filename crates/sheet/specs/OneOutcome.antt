@@ -1,0 +1,37 @@
+-- No two outcomes satisfy the promise of a call on a sheet: `one-NAME` for each entry NAME. Assumes nothing.
+use mathlib.Core.Path.{_≡_, refl, sym, _∙_, ap, ap₂}
+use mathlib.Core.List.{List}
+use Prim.Native.Nat.{ℕ}
+use Rattle.air.specs.declared.Refusal.the-variants.{Plain, AtRow}
+use Rattle.air.specs.Refusals.{Told, gives, refuses, refusesRow}
+use Rattle.sheet.specs.declared.SheetAnswer.{SheetAnswer}
+use Rattle.sheet.specs.declared.SheetAnswer.the-variants.{Good, Refused}
+use Rattle.sheet.specs.Answers.{paper, readTold, listAfter, SheetRead, judgeTold}
+use Rattle.sheet.specs.Machine.{after}
+use Rattle.sheet.specs.FormLaws.{one-form}
+
+-- the answer of what it tells
+answerOf : Told (Unit {0}) → SheetAnswer
+answerOf (gives a) = Good
+answerOf (refuses n) = Refused (Plain n)
+answerOf (refusesRow n r) = Refused (AtRow n r)
+
+answer-back : (a : SheetAnswer) → answerOf (paper a) ≡ a
+unfolding answerOf
+answer-back Good = refl
+answer-back (Refused (Plain n)) = refl
+answer-back (Refused (AtRow n r)) = refl
+
+pub one-answer : (a b : SheetAnswer) → paper a ≡ paper b → a ≡ b
+one-answer a b e = sym (answer-back a) ∙ (ap answerOf e ∙ answer-back b)
+
+pub one-read_sheet : {text before later after : List ℕ} {a b : SheetAnswer} → SheetRead text before a later → SheetRead text before b after → (a ≡ b) × (later ≡ after)
+one-read_sheet {text} {before} {later} {after} {a} {b} p q =
+    let s = one-form (p .form) (q .form) in
+    let l : readTold before (p .form) ≡ readTold before (q .form) = rw (s .breaks-same, s .row-same) refl in
+    let e : a ≡ b = one-answer a b (p .told ∙ (l ∙ sym (q .told))) in
+    (e, p .list ∙ (ap₂ (λ (x : SheetAnswer) (y : List ℕ). listAfter x y before) e (s .numbers-same) ∙ sym (q .list)))
+
+-- the judge of a list
+pub one-judge_sheet : (s : List ℕ) (a b : SheetAnswer) → paper a ≡ judgeTold s → paper b ≡ judgeTold s → a ≡ b
+one-judge_sheet s a b p q = one-answer a b (p ∙ sym q)

@@ -1,0 +1,57 @@
+// The inner doors of sheet, for the calls above that take a sheet list: the list judged with the air column lent, and its columns read by kelvin.
+use crate::SheetAnswer;
+use crate::judging;
+use air::Refusal;
+ghost use mathlib.Core.Path.{_≡_};
+ghost use Prim.Native.Nat.{_≤_, _<_};
+ghost use lib.ListN.{length};
+ghost use Rattle.rows.specs.Rows.{rowsH};
+ghost use Rattle.sheet.specs.Sheet.{o2, co2, h2o};
+ghost use Rattle.sheet.specs.Answers.{paper, judgeTold};
+
+// Whether the list is an accepted sheet: refusal 1, or 3 with the first bad row, else good.
+pub fn judge(list: &[u32], air: &[u32; 1801]) -> SheetAnswer
+    requires { ⌜ now air ≡ rowsH ⌝ }
+    ensures { λ r. ⌜ paper r ≡ judgeTold (now (list .entry)) ⌝ }
+{
+    if list.len() != 5403 {
+        return SheetAnswer::Refused(Refusal::Plain(crate::LIST_LENGTH));
+    }
+    let row = judging::first_bad_row(list, air);
+    if row < 1801 {
+        SheetAnswer::Refused(Refusal::AtRow(crate::BAD_ROW, row))
+    } else {
+        SheetAnswer::Good
+    }
+}
+
+// The number in 64 bits.
+fn wide(x: u32) -> u64
+    ensures { λ r. ⌜ (r ≡ x) × (r < 4294967296) ⌝ }
+{
+    x as u64
+}
+
+// O2 at a whole kelvin.
+pub fn o2_at(list: &[u32], kelvin: u64) -> u64
+    requires { ⌜ (length (now list) ≡ 5403) × (200 ≤ kelvin) × (kelvin ≤ 2000) ⌝ }
+    ensures { λ r. ⌜ (r ≡ o2 (now (list .entry)) kelvin) × (r < 4294967296) ⌝ }
+{
+    wide(list[3 * (kelvin - 200) as usize])
+}
+
+// CO2 at a whole kelvin.
+pub fn co2_at(list: &[u32], kelvin: u64) -> u64
+    requires { ⌜ (length (now list) ≡ 5403) × (200 ≤ kelvin) × (kelvin ≤ 2000) ⌝ }
+    ensures { λ r. ⌜ (r ≡ co2 (now (list .entry)) kelvin) × (r < 4294967296) ⌝ }
+{
+    wide(list[3 * (kelvin - 200) as usize + 1])
+}
+
+// H2O at a whole kelvin.
+pub fn h2o_at(list: &[u32], kelvin: u64) -> u64
+    requires { ⌜ (length (now list) ≡ 5403) × (200 ≤ kelvin) × (kelvin ≤ 2000) ⌝ }
+    ensures { λ r. ⌜ (r ≡ h2o (now (list .entry)) kelvin) × (r < 4294967296) ⌝ }
+{
+    wide(list[3 * (kelvin - 200) as usize + 2])
+}

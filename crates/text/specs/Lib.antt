@@ -1,0 +1,9 @@
+-- A machine over bytes, numbers in decimal, their reading, and texts in a buffer: what each is, and the laws that other crates cite
+pub mod Fold
+pub mod FoldLaws
+pub mod Decimal
+pub mod DecimalLaws
+pub mod Reading
+pub mod ReadingLaws
+pub mod Put
+pub mod PutLaws
