@@ -1,0 +1,6 @@
+pub mod Spans
+pub mod Patterns
+pub mod Digits
+pub mod Places
+pub mod Ends
+pub mod WorkedMarks

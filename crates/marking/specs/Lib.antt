@@ -1,0 +1,7 @@
+pub mod Marking
+pub mod MarkingLaws
+pub mod Exact
+pub mod Division
+pub mod Figures
+pub mod FiguresLaws
+pub mod OneOutcome

@@ -1,0 +1,35 @@
+-- No two outcomes satisfy the promise of a call on figures and typed answers: `one-NAME` for each entry NAME. Assumes nothing.
+use mathlib.Core.Path.{_≡_, refl, sym, _∙_}
+use mathlib.Core.Bool.{Bool, true, false}
+use Prim.Native.Nat.{_-_}
+use lib.IntN.{ℤ}
+use lib.Ieee.{Float, binary64, sub}
+use Rattle.air.specs.Refusals.{Told, gives, refuses, refusesRow}
+use Rattle.air.specs.declared.Refusal.the-variants.{Plain, AtRow}
+use Rattle.air.specs.RefusalsLaws.{one-told}
+use Rattle.marking.specs.Marking.{marked, paper}
+use Rattle.marking.specs.declared.Typed.{Typed}
+use Rattle.marking.specs.declared.MarkAnswer.{MarkAnswer}
+use Rattle.marking.specs.declared.MarkAnswer.the-variants.{Counts, Misses, Refused}
+
+-- the mark that is told so
+markOf : Told Bool → MarkAnswer
+markOf (gives true) = Counts
+markOf (gives false) = Misses
+markOf (refuses number) = Refused (Plain number)
+markOf (refusesRow number row) = Refused (AtRow number row)
+
+mark-back : (r : MarkAnswer) → markOf (paper r) ≡ r
+unfolding markOf
+mark-back Counts = refl
+mark-back Misses = refl
+mark-back (Refused (Plain number)) = refl
+mark-back (Refused (AtRow number row)) = refl
+
+-- no two marks satisfy the promise
+pub one-mark : (typed : Typed) (key window : ℤ) (r s : MarkAnswer) → paper r ≡ marked typed key window → paper s ≡ marked typed key window → r ≡ s
+one-mark typed key window = one-told paper markOf mark-back
+
+-- no two floats satisfy the promise of `difference`
+pub one-difference : (a b r s : Float) → r ≡ sub binary64 a b → s ≡ sub binary64 a b → r ≡ s
+one-difference a b r s p q = p ∙ sym q
