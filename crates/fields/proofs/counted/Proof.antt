@@ -1,0 +1,25 @@
+use mathlib.Core.Path.{refl}
+use borrow.Author.Needs.{needs}
+use Rattle.fields.proofs.counted.Statement.{statement}
+use Rattle.fields.proofs.counted.Tie as tie
+use Rattle.fields.proofs.counted.Reads as reads
+use Rattle.fields.proofs.counted.Lts as lts
+
+-- src/lib.rt:80:24
+enum-known-n : tie.Need-enum-known-n
+enum-known-n c = search needs
+
+-- src/lib.rt:81:25
+enum-told : tie.Need-enum-told
+enum-told c = search needs
+
+-- src/lib.rt:76:1
+returns : tie.Need-returns
+returns c = rw (c .before .n .given .1) refl
+
+-- src/lib.rt:76:1
+returns-2 : tie.Need-returns-2
+returns-2 c = search needs
+
+pub counted-spec : {M : Type 1} → statement M
+counted-spec = tie.close (tie.spec enum-known-n enum-told returns returns-2)

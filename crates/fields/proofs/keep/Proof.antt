@@ -1,0 +1,30 @@
+use Rattle.fields.specs.FieldsLaws.{set-past}
+use mathlib.Core.Path.{_≡_, refl, sym, _∙_, ap, subst}
+use borrow.Author.Needs.{needs}
+use Rattle.fields.proofs.keep.Statement.{statement}
+use Rattle.fields.proofs.keep.Tie as tie
+use Rattle.fields.proofs.keep.Reads as reads
+use Rattle.fields.proofs.keep.Lts as lts
+
+-- src/lib.rt:41:9
+mul-z : tie.Need-mul-z
+mul-z c = search needs
+
+-- src/lib.rt:41:9
+slice-set-from-z : tie.Need-slice-set-from-z
+slice-set-from-z c = search needs
+
+-- src/lib.rt:37:1
+same-length : tie.Need-same-length
+same-length c = search needs
+
+-- src/lib.rt:37:1
+returns : tie.Need-returns
+returns c = search needs
+
+-- src/lib.rt:37:1
+returns-2 : tie.Need-returns-2
+returns-2 c = sym (set-past (c .before .args .list .now) (c .before .args .n) (c .before .args .z) (c .if1 .left))
+
+pub keep-spec : {M : Type 1} → statement M
+keep-spec = tie.close (tie.spec mul-z slice-set-from-z same-length returns returns-2)

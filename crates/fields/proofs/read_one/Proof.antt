@@ -1,0 +1,56 @@
+use Rattle.text.specs.declared.Whole.the-variants.{Is, Not}
+use Rattle.fields.specs.Fields.{fieldsFrom, valuesOf}
+use Rattle.fields.specs.FieldsLaws.{exactly, not-exactly}
+use Rattle.signed.specs.Zed.{back}
+use mir.Val.{SFits}
+use mir.Syntax.{w64}
+use lib.ListN.{getD}
+use lib.IntN.{ℤ, pos}
+use mathlib.Core.Path.{refl}
+use mathlib.Core.List.{List, [], _∷_}
+use borrow.Author.Needs.{needs}
+use Rattle.fields.proofs.read_one.Statement.{statement}
+use Rattle.fields.proofs.read_one.Tie as tie
+use Rattle.fields.proofs.read_one.Reads as reads
+use Rattle.fields.proofs.read_one.Lts as lts
+use Rattle.fields.proofs.counted.Reads as counted-reads
+use Rattle.fields.proofs.read_numbers.Reads as read-numbers-reads
+
+-- src/lib.rt:90:38
+slice-aggregate-read-numbers : tie.Need-slice-aggregate-read-numbers
+slice-aggregate-read-numbers c = search needs
+
+-- src/lib.rt:90:9
+read-numbers-requires : tie.Need-read-numbers-requires
+read-numbers-requires c κs = search needs
+
+-- src/lib.rt:91:8
+counted-requires : tie.Need-counted-requires
+counted-requires c κs = search needs
+
+-- src/lib.rt:91:34
+array-copy-out-t11 : tie.Need-array-copy-out-t11
+array-copy-out-t11 c = search needs
+
+-- src/lib.rt:86:1
+returns : tie.Need-returns
+returns c =
+    let f0 : SFits w64 (getD (c .before .before .before .before .read-numbers .last .1 .1 .0) 0 (pos 0)) = search needs in
+    rw (back f0)
+    (exactly (λ (l : List ℤ). Is (getD l 0 (pos 0))) Not (fieldsFrom (c .before .before .before .before .before .before .before .args .line .now) (c .before .before .before .before .before .before .before .args .from)) (pos 0 ∷ []) (c .before .before .before .before .read-numbers .last .1 .1 .0) 1
+    (c .before .before .before .before .read-numbers .ensures .0) (c .before .before .counted .ensures) (c .before .if1 .taken) refl (c .before .before .before .before .read-numbers .ensures .1))
+
+-- src/lib.rt:86:1
+returns-2 : tie.Need-returns-2
+returns-2 c = not-exactly (Is (getD (valuesOf (fieldsFrom (c .before .before .before .before .before .before .args .line .now) (c .before .before .before .before .before .before .args .from))) 0 (pos 0))) Not (fieldsFrom (c .before .before .before .before .before .before .args .line .now) (c .before .before .before .before .before .before .args .from)) 1 (c .before .before .before .read-numbers .ensures .0) (c .before .counted .ensures) (c .if1 .left)
+
+pub read-one-spec : {M : Type 1} → statement M
+read-one-spec =
+    tie.close
+    (tie.spec
+    slice-aggregate-read-numbers
+    read-numbers-requires
+    counted-requires
+    array-copy-out-t11
+    returns
+    returns-2)

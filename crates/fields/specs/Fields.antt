@@ -1,0 +1,84 @@
+-- The fields of a line, parted by tabs, and the whole numbers that they are, each written in decimal as a number is printed.
+use Prim.Native.Nat.{ℕ, suc, _+_}
+use mathlib.Core.Bool.{Bool, false, cond}
+use mathlib.Core.Path.{_≡_}
+use mathlib.Core.List.{List, [], _∷_}
+use lib.Dec.{leb, eqb}
+use lib.ListN.{length, drop, getD}
+use lib.Seq.{sets}
+use lib.IntN.{ℤ, pos}
+use Rattle.text.specs.Reading.{wholeOf}
+use Rattle.text.specs.declared.Whole.{Whole}
+use Rattle.text.specs.declared.Whole.the-variants.{Is, Not}
+use Rattle.fields.specs.declared.Numbers.{Numbers}
+use Rattle.fields.specs.declared.Numbers.the-variants.{Count, Bad}
+use Rattle.fields.specs.declared.Two.{Two}
+use Rattle.fields.specs.declared.Two.the-variants.{Are as AreTwo, Not as NotTwo}
+use Rattle.fields.specs.declared.Three.{Three}
+use Rattle.fields.specs.declared.Three.the-variants.{Are as AreThree, Not as NotThree}
+use Rattle.fields.specs.declared.Four.{Four}
+use Rattle.fields.specs.declared.Four.the-variants.{Are as AreFour, Not as NotFour}
+
+-- how many bytes stand before the first tab
+abbrev pub spanOf : List ℕ → ℕ
+spanOf [] = 0
+spanOf (b ∷ bs) = cond (eqb b 9) 0 (suc (spanOf bs))
+
+-- a byte in front of the first field
+abbrev pub onHead : ℕ → List (List ℕ) → List (List ℕ)
+onHead b [] = (b ∷ []) ∷ []
+onHead b (f ∷ fs) = (b ∷ f) ∷ fs
+
+-- the fields of a text: at least one
+abbrev pub fieldsOf : List ℕ → List (List ℕ)
+fieldsOf [] = [] ∷ []
+fieldsOf (b ∷ bs) = cond (eqb b 9) ([] ∷ fieldsOf bs) (onHead b (fieldsOf bs))
+
+-- the fields from a place on; none where the place is past the line's end
+unfoldable pub fieldsFrom : List ℕ → ℕ → List (List ℕ)
+fieldsFrom line p = cond (leb p (length line)) (fieldsOf (drop p line)) []
+
+-- the numbers of the fields, 0 for one that is none
+abbrev pub valueOf : Whole → ℤ
+valueOf (Is z) = z
+valueOf Not = pos 0
+
+abbrev pub valuesOf : List (List ℕ) → List ℤ
+valuesOf [] = []
+valuesOf (f ∷ fs) = valueOf (wholeOf f) ∷ valuesOf fs
+
+-- how many numbers the fields are, from n on; Bad where one is none
+abbrev pub countNext : Whole → Numbers → Numbers
+countNext (Is z) r = r
+countNext Not r = Bad
+
+abbrev pub countAll : ℕ → List (List ℕ) → Numbers
+countAll n [] = Count n
+countAll n (f ∷ fs) = countNext (wholeOf f) (countAll (n + 1) fs)
+
+-- where all are numbers they stand in the list from its start, as far as it reaches
+abbrev pub Stored : List (List ℕ) → List ℤ → Numbers → List ℤ → Type 0
+Stored fs before (Count n) later = later ≡ sets before 0 (valuesOf fs)
+Stored fs before Bad later = Unit {0}
+
+-- there are exactly k numbers
+abbrev pub isCount : ℕ → Numbers → Bool
+isCount k (Count n) = eqb n k
+isCount k Bad = false
+
+-- one number, two, three, four, and no more
+abbrev pub oneOf : List (List ℕ) → Whole
+oneOf fs = cond (isCount 1 (countAll 0 fs)) (Is (getD (valuesOf fs) 0 (pos 0))) Not
+
+abbrev pub twoOf : List (List ℕ) → Two
+twoOf fs = cond (isCount 2 (countAll 0 fs)) (AreTwo (getD (valuesOf fs) 0 (pos 0)) (getD (valuesOf fs) 1 (pos 0))) NotTwo
+
+abbrev pub threeOf : List (List ℕ) → Three
+threeOf fs =
+    cond (isCount 3 (countAll 0 fs)) (AreThree (getD (valuesOf fs) 0 (pos 0)) (getD (valuesOf fs) 1 (pos 0)) (getD (valuesOf fs) 2 (pos 0))) NotThree
+
+abbrev pub fourOf : List (List ℕ) → Four
+fourOf fs =
+    cond (isCount 4 (countAll 0 fs))
+    (AreFour (getD (valuesOf fs) 0 (pos 0)) (getD (valuesOf fs) 1 (pos 0)) (getD (valuesOf fs) 2 (pos 0)) (getD (valuesOf fs) 3 (pos 0)))
+    NotFour

@@ -1,0 +1,135 @@
+// The fields of a line, parted by tabs, and the whole numbers that they are (specs/Fields.antt). For the console above and its programs: every function
+// takes every input and promises an equation, but that a list is left open where a field is no number.
+ghost use mathlib.Core.Path.{_≡_};
+ghost use Prim.Native.Nat.{_+_};
+ghost use lib.ListN.{length, set, drop};
+ghost use Rattle.fields.specs.Fields.{spanOf, fieldsFrom, countAll, Stored, isCount, oneOf, twoOf, threeOf, fourOf};
+use text::Whole;
+
+// How many numbers the fields are, or that one of them is none.
+pub enum Numbers {
+    Count(usize),
+    Bad,
+}
+
+// Two numbers and no more.
+pub enum Two {
+    Are(i64, i64),
+    Not,
+}
+
+// Three numbers and no more.
+pub enum Three {
+    Are(i64, i64, i64),
+    Not,
+}
+
+// Four numbers and no more.
+pub enum Four {
+    Are(i64, i64, i64, i64),
+    Not,
+}
+
+// Where the field that starts at `from` ends: its tab, or the line's end.
+pub fn field_end(line: &[u8], from: usize) -> usize
+    ensures { λ r. ⌜ r ≡ from + spanOf (drop from (now (line .entry))) ⌝ }
+{
+    let mut i = from;
+    while i < line.len() {
+        if line[i] == 9 {
+            return i;
+        }
+        i += 1;
+    }
+    i
+}
+
+// Puts the number at n, where the list has that place.
+fn keep(list: &mut [i64], n: usize, z: i64)
+    ensures { λ _. ⌜ now (list .exit) ≡ set (now (list .entry)) n z ⌝ }
+{
+    if n < list.len() {
+        list[n] = z;
+    }
+}
+
+// The fields from `from` on as whole numbers, as many as the list has places; all are counted.
+pub fn read_numbers(line: &[u8], from: usize, list: &mut [i64]) -> Numbers
+    ensures { λ r. ⌜ r ≡ countAll 0 (fieldsFrom (now (line .entry)) from) ⌝ }
+    ensures { λ r. ⌜ Stored (fieldsFrom (now (line .entry)) from) (now (list .entry)) r (now (list .exit)) ⌝ }
+{
+    let mut p = from;
+    let mut n = 0;
+    while p <= line.len() {
+        let e = field_end(line, p);
+        let Whole::Is(z) = text::read_whole(&line[p..e]) else {
+            return Numbers::Bad;
+        };
+        keep(list, n, z);
+        n += 1;
+        p = e + 1;
+    }
+    Numbers::Count(n)
+}
+
+// Whether the fields are exactly k numbers.
+fn counted(n: Numbers, k: usize) -> bool
+    ensures { λ r. ⌜ r ≡ isCount k n ⌝ }
+{
+    match n {
+        Numbers::Count(m) => m == k,
+        Numbers::Bad => false,
+    }
+}
+
+// The one number that the fields from `from` on are.
+pub fn read_one(line: &[u8], from: usize) -> Whole
+    ensures { λ r. ⌜ r ≡ oneOf (fieldsFrom (now (line .entry)) from) ⌝ }
+{
+    let mut list = [0i64; 1];
+    let n = read_numbers(line, from, &mut list);
+    if counted(n, 1) {
+        Whole::Is(list[0])
+    } else {
+        Whole::Not
+    }
+}
+
+// The two numbers that the fields from `from` on are.
+pub fn read_two(line: &[u8], from: usize) -> Two
+    ensures { λ r. ⌜ r ≡ twoOf (fieldsFrom (now (line .entry)) from) ⌝ }
+{
+    let mut list = [0i64; 2];
+    let n = read_numbers(line, from, &mut list);
+    if counted(n, 2) {
+        Two::Are(list[0], list[1])
+    } else {
+        Two::Not
+    }
+}
+
+// The three numbers that the fields from `from` on are.
+pub fn read_three(line: &[u8], from: usize) -> Three
+    ensures { λ r. ⌜ r ≡ threeOf (fieldsFrom (now (line .entry)) from) ⌝ }
+{
+    let mut list = [0i64; 3];
+    let n = read_numbers(line, from, &mut list);
+    if counted(n, 3) {
+        Three::Are(list[0], list[1], list[2])
+    } else {
+        Three::Not
+    }
+}
+
+// The four numbers that the fields from `from` on are.
+pub fn read_four(line: &[u8], from: usize) -> Four
+    ensures { λ r. ⌜ r ≡ fourOf (fieldsFrom (now (line .entry)) from) ⌝ }
+{
+    let mut list = [0i64; 4];
+    let n = read_numbers(line, from, &mut list);
+    if counted(n, 4) {
+        Four::Are(list[0], list[1], list[2], list[3])
+    } else {
+        Four::Not
+    }
+}

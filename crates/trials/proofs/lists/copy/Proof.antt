@@ -1,0 +1,68 @@
+use lib.ListN.{length, length-set}
+use native.Mathlib.Omega.{arith}
+use mathlib.Core.Path.{_≡_, refl}
+use Prim.Native.Nat.{_-_, _≤_}
+use borrow.Author.Needs.{needs}
+use Rattle.trials.proofs.lists.copy.Statement.{statement}
+use Rattle.trials.proofs.lists.copy.Tie as tie
+use Rattle.trials.proofs.lists.copy.Reads as reads
+use Rattle.trials.proofs.lists.copy.Lts as lts
+use Rattle.trials.proofs.lists.store.Reads as store-reads
+
+abbrev Inv-loop : tie.InvT-loop
+Inv-loop from to₀ i₀ to i = length to ≡ length to₀
+
+abbrev μ-loop : tie.MeasureT-loop
+μ-loop from to₀ i₀ to i = length from - i
+
+-- src/lists.rt:88:5
+loop-holds : tie.Need-loop-holds Inv-loop μ-loop
+loop-holds c = search needs
+
+-- src/lists.rt:89:22
+mul-store : tie.Need-mul-store Inv-loop μ-loop
+mul-store c = search needs
+
+-- src/lists.rt:89:22
+shared-slice-read-store : tie.Need-shared-slice-read-store Inv-loop μ-loop
+shared-slice-read-store c = search needs
+
+-- src/lists.rt:89:9
+store-requires : tie.Need-store-requires Inv-loop μ-loop
+store-requires c κs = search needs
+
+-- src/lists.rt:90:9
+add-i : tie.Need-add-i Inv-loop μ-loop
+add-i c = search needs
+
+-- src/lists.rt:88:5
+loop-less : tie.Need-loop-less Inv-loop μ-loop
+loop-less c = search needs
+
+-- src/lists.rt:88:5
+loop-again : tie.Need-loop-again Inv-loop μ-loop
+loop-again c = search needs
+
+-- src/lists.rt:86:1
+same-length : tie.Need-same-length Inv-loop μ-loop
+same-length c = search needs
+
+-- src/lists.rt:86:1
+returns : tie.Need-returns Inv-loop μ-loop
+returns c = search needs
+
+pub copy-spec : {M : Type 1} → statement M
+copy-spec =
+    tie.close
+    (tie.spec
+    Inv-loop
+    μ-loop
+    loop-holds
+    mul-store
+    shared-slice-read-store
+    store-requires
+    add-i
+    loop-less
+    loop-again
+    same-length
+    returns)

@@ -1,0 +1,58 @@
+use lib.ListN.{length, length-set}
+use native.Mathlib.Omega.{arith}
+use mathlib.Core.Path.{_≡_, refl}
+use Prim.Native.Nat.{_-_, _≤_}
+use borrow.Author.Needs.{needs}
+use Rattle.trials.proofs.lists.put_sheet.Statement.{statement}
+use Rattle.trials.proofs.lists.put_sheet.Tie as tie
+use Rattle.trials.proofs.lists.put_sheet.Reads as reads
+use Rattle.trials.proofs.lists.put_sheet.Lts as lts
+use Rattle.trials.proofs.lists.put_row.Reads as put-row-reads
+
+abbrev Inv-loop : tie.InvT-loop
+Inv-loop list buf₀ at₀ row₀ buf at row = (length buf ≡ length buf₀) × (row ≤ 1801)
+
+abbrev μ-loop : tie.MeasureT-loop
+μ-loop list buf₀ at₀ row₀ buf at row = 1801 - row
+
+-- src/lists.rt:165:5
+loop-holds : tie.Need-loop-holds Inv-loop μ-loop
+loop-holds c = search needs
+
+-- src/lists.rt:166:9
+put-row-requires : tie.Need-put-row-requires Inv-loop μ-loop
+put-row-requires c κs = search needs
+
+-- src/lists.rt:167:9
+add-row : tie.Need-add-row Inv-loop μ-loop
+add-row c = search needs
+
+-- src/lists.rt:165:5
+loop-less : tie.Need-loop-less Inv-loop μ-loop
+loop-less c = search needs
+
+-- src/lists.rt:165:5
+loop-again : tie.Need-loop-again Inv-loop μ-loop
+loop-again c = search needs
+
+-- src/lists.rt:162:1
+same-length : tie.Need-same-length Inv-loop μ-loop
+same-length c = search needs
+
+-- src/lists.rt:162:1
+returns : tie.Need-returns Inv-loop μ-loop
+returns c = search needs
+
+pub put-sheet-spec : {M : Type 1} → statement M
+put-sheet-spec =
+    tie.close
+    (tie.spec
+    Inv-loop
+    μ-loop
+    loop-holds
+    put-row-requires
+    add-row
+    loop-less
+    loop-again
+    same-length
+    returns)

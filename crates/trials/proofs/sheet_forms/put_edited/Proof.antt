@@ -1,0 +1,87 @@
+use lib.ListN.{length-take}
+use native.Mathlib.Omega.{arith}
+use borrow.Author.Needs.{needs}
+use Rattle.trials.proofs.sheet_forms.put_edited.Statement.{statement}
+use Rattle.trials.proofs.sheet_forms.put_edited.Tie as tie
+use Rattle.trials.proofs.sheet_forms.put_edited.Reads as reads
+use Rattle.trials.proofs.sheet_forms.put_edited.Lts as lts
+use Rattle.trials.proofs.lists.bounded.Reads as bounded-reads
+use Rattle.trials.proofs.lists.least.Reads as least-reads
+use Rattle.trials.proofs.lists.number_at.Reads as number-at-reads
+use Rattle.trials.proofs.lists.put_edited.Reads as put-edited-reads
+use Rattle.trials.proofs.sheet_forms.put_read.Reads as put-read-reads
+
+-- src/sheet_forms.rt:38:31
+number-at-requires : tie.Need-number-at-requires
+number-at-requires c κs = search needs
+
+-- src/sheet_forms.rt:38:9
+bounded-requires : tie.Need-bounded-requires
+bounded-requires c κs = search needs
+
+-- src/sheet_forms.rt:39:31
+number-at-requires-2 : tie.Need-number-at-requires-2
+number-at-requires-2 c κs = search needs
+
+-- src/sheet_forms.rt:39:61
+sub-bounded : tie.Need-sub-bounded
+sub-bounded c = search needs
+
+-- src/sheet_forms.rt:39:9
+bounded-requires-2 : tie.Need-bounded-requires-2
+bounded-requires-2 c κs = search needs
+
+-- src/sheet_forms.rt:40:61
+slice-aggregate-put-edited : tie.Need-slice-aggregate-put-edited
+slice-aggregate-put-edited c = search needs
+
+-- src/sheet_forms.rt:40:9
+put-edited-requires : tie.Need-put-edited-requires
+put-edited-requires c κs = search needs
+
+-- src/sheet_forms.rt:41:9
+least-requires : tie.Need-least-requires
+least-requires c κs = search needs
+
+-- src/sheet_forms.rt:42:14
+array-share-prefix-edited : tie.Need-array-share-prefix-edited
+array-share-prefix-edited c = search needs
+
+-- src/sheet_forms.rt:42:14
+slice-aggregate-put-read : tie.Need-slice-aggregate-put-read
+slice-aggregate-put-read c = simp length-take (omega arith)
+
+-- src/sheet_forms.rt:42:5
+put-read-requires : tie.Need-put-read-requires
+put-read-requires c κs = search needs
+
+-- src/sheet_forms.rt:36:1
+same-length : tie.Need-same-length
+same-length c = search needs
+
+-- src/sheet_forms.rt:36:1
+same-length-2 : tie.Need-same-length-2
+same-length-2 c = search needs
+
+-- src/sheet_forms.rt:36:1
+returns : tie.Need-returns
+returns c = search needs
+
+pub put-edited-spec : {M : Type 1} → statement M
+put-edited-spec =
+    tie.close
+    (tie.spec
+    number-at-requires
+    bounded-requires
+    number-at-requires-2
+    sub-bounded
+    bounded-requires-2
+    slice-aggregate-put-edited
+    put-edited-requires
+    least-requires
+    array-share-prefix-edited
+    slice-aggregate-put-read
+    put-read-requires
+    same-length
+    same-length-2
+    returns)

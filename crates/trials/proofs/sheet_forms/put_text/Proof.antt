@@ -1,0 +1,50 @@
+use lib.ListN.{length-take}
+use native.Mathlib.Omega.{arith}
+use borrow.Author.Needs.{needs}
+use Rattle.trials.proofs.sheet_forms.put_text.Statement.{statement}
+use Rattle.trials.proofs.sheet_forms.put_text.Tie as tie
+use Rattle.trials.proofs.sheet_forms.put_text.Reads as reads
+use Rattle.trials.proofs.sheet_forms.put_text.Lts as lts
+use Rattle.trials.proofs.lists.bounded.Reads as bounded-reads
+use Rattle.trials.proofs.lists.number_at.Reads as number-at-reads
+use Rattle.trials.proofs.sheet_forms.put_made.Reads as put-made-reads
+
+-- src/sheet_forms.rt:56:28
+number-at-requires : tie.Need-number-at-requires
+number-at-requires c κs = search needs
+
+-- src/sheet_forms.rt:56:9
+bounded-requires : tie.Need-bounded-requires
+bounded-requires c κs = search needs
+
+-- src/sheet_forms.rt:57:23
+array-borrow-prefix-list : tie.Need-array-borrow-prefix-list
+array-borrow-prefix-list c = search needs
+
+-- src/sheet_forms.rt:57:23
+slice-aggregate-put-made : tie.Need-slice-aggregate-put-made
+slice-aggregate-put-made c = simp length-take (omega arith)
+
+-- src/sheet_forms.rt:57:5
+put-made-requires : tie.Need-put-made-requires
+put-made-requires c κs = search needs
+
+-- src/sheet_forms.rt:54:1
+same-length : tie.Need-same-length
+same-length c = search needs
+
+-- src/sheet_forms.rt:54:1
+returns : tie.Need-returns
+returns c = search needs
+
+pub put-text-spec : {M : Type 1} → statement M
+put-text-spec =
+    tie.close
+    (tie.spec
+    number-at-requires
+    bounded-requires
+    array-borrow-prefix-list
+    slice-aggregate-put-made
+    put-made-requires
+    same-length
+    returns)

@@ -1,0 +1,178 @@
+//! `trial_limits`: both sides of every limit of document 01, and its examples P1 to P10.
+
+use crate::trials::Part;
+
+/// A line for each side; a line's words are parted here by spaces.
+pub fn requests(built: Part) -> Vec<String> {
+    let lines = [
+        (Part::Air, AIR.lines().map(str::to_string).collect()),
+        (Part::Sheet, SHEET.lines().map(str::to_string).collect()),
+        (Part::Gas, GAS.lines().map(str::to_string).collect()),
+        (Part::Walk, walks()),
+        (Part::Marking, MARKING.lines().map(str::to_string).collect::<Vec<String>>()),
+    ];
+    let stands = lines.into_iter().filter(|(part, _)| *part <= built);
+    stands.flat_map(|(_, lines)| lines).map(|line| line.trim().replace(' ', "\t")).collect()
+}
+
+/// P1 to P3; 200,000 to 2,000,000 mK; 200 to 2,000 K; ψ at its ends; eleven places.
+const AIR: &str = "\
+air-heat 200000
+air-heat 200500
+air-psi 200500
+air-heat 199999
+air-heat 2000000
+air-heat 2000001
+air-psi 199999
+air-psi 200000
+air-psi 2000000
+air-psi 2000001
+air-cp 199
+air-cp 200
+air-cp 2000
+air-cp 2001
+air-temperature 95263999
+air-temperature 95264000
+air-temperature 133151000
+air-temperature 133151001
+air-temperature-into 10 95264000
+air-temperature-into 11 95264000";
+
+/// 5,403 places; 0 to 200,000; O2 rises by four times the rise of air; no gas falls; 1,801 lines.
+const SHEET: &str = "\
+list 1 5402
+list 1 5403
+list 1 5404
+list 1 5403 2 1801 200000
+list 1 5403 2 1801 200001
+list 1 5403 3 1800 96
+list 1 5403 3 1800 97
+list 2 5403 5402 1 200000
+list 2 5403 5402 1 199999
+text 0 5402 0 0
+text 0 5403 0 0
+text 0 5404 0 0
+text 3 5403 0 0
+text 1 5403 4 1 50 48 48 48 48 48
+text 1 5403 4 1 50 48 48 48 48 49
+text 1 5403 19000 11
+text 1 5403 19010 1
+text 1 5403 19011 0 10";
+
+/// P4 to P10; A, c and h; lean; range; a target at and beside the heat at both ends; places.
+const GAS: &str = "\
+burn 3 1 4
+burn 2 1 4
+burn 4000 0 11593
+burn 4000 0 11594
+burn 0 0 0
+burn 1 0 0
+burn 100000 0 0
+burn 100001 0 0
+burn 100000 -1 0
+burn 100000 0 -1
+burn 100000 50000 50000
+burn 100000 50001 0
+burn 100000 0 50001
+temperature 1 0 0 478800000000
+temperature 1 0 0 478802399999
+temperature 1 0 0 478802400000
+gas-heat 1 0 0 199999
+gas-heat 1 0 0 200000
+gas-heat 1 0 0 2000000
+gas-heat 1 0 0 2000001
+content 3 1 4 199999
+content 3 1 4 200000
+content 3 1 4 288160
+content 3 1 4 2000000
+content 3 1 4 2000001
+specific-content 3 1 4 199999
+specific-content 3 1 4 200000
+specific-content 3 1 4 288160
+specific-content 3 1 4 2000000
+specific-content 3 1 4 2000001
+gas-heat 0 0 0 300000
+gas-heat 100000 0 0 300000
+gas-heat 100001 0 0 300000
+temperature 1 0 0 477599999999
+temperature 1 0 0 477600000000
+temperature 1 0 0 5378899999999
+temperature 1 0 0 5378900000000
+temperature 1 0 0 5378900000001
+temperature-into 10 1 0 0 478800000000
+temperature-into 11 1 0 0 478800000000
+temperature-into 12 1 0 0 478800000000";
+
+/// The printed walk; 64 and 65 steps, in fours; places; start; atoms, calorific value and q.
+fn walks() -> Vec<String> {
+    let still = |numbers: usize| "0 ".repeat(numbers);
+    let mut lines: Vec<String> = WALK.lines().map(str::to_string).collect();
+    for numbers in [252, 255, 256, 257, 260] {
+        lines.push(format!("walk 1 0 0 300000 {}", still(numbers)));
+    }
+    for [t, r, l] in [[64, 64, 704], [63, 64, 704], [64, 63, 704], [64, 64, 703], [65, 65, 715]] {
+        lines.push(format!("walk-into {t} {r} {l} 1 0 0 300000 {}", still(256)));
+    }
+    lines
+}
+
+const WALK: &str = "\
+walk 1 0 0 200000 0 0 0 1200000001 0 0 0 2400000
+walk 1 0 0 200000
+walk 0 0 0 200000
+walk 100000 0 0 200000
+walk 100001 0 0 200000
+walk 1 0 0 199999
+walk 1 0 0 2000000
+walk 1 0 0 2000001
+walk 4000 0 11593 300000
+walk 4000 0 11594 300000
+walk 1 0 0 2000000 0 0 0 0
+walk 1 0 0 2000000 0 0 0 1
+walk 1 0 0 200000 0 0 0 0
+walk 1 0 0 200000 0 0 0 -1
+walk 100000 0 0 300000 -1 0 0 0
+walk 100000 0 0 300000 0 -1 0 0
+walk 100000 49999 0 300000 1 0 0 0
+walk 100000 50000 0 300000 1 0 0 0
+walk 100000 0 49999 300000 0 1 0 0
+walk 100000 0 50000 300000 0 1 0 0
+walk 4000 0 11592 300000 0 1 0 0
+walk 4000 0 11593 300000 0 1 0 0
+walk 1 0 0 300000 0 0 -1 0
+walk 1 0 0 300000 0 0 0 0
+walk 1 0 0 300000 0 0 5000000 0
+walk 1 0 0 300000 0 0 5000001 0
+walk 1 0 0 300000 0 0 0 1000000000000000000
+walk 1 0 0 300000 0 0 0 1000000000000000001
+walk 1 0 0 300000 0 0 0 -1000000000000000000
+walk 1 0 0 300000 0 0 0 -1000000000000000001";
+
+/// w and the key; blank, infinite and not a number; a station's range.
+const MARKING: &str = "\
+mark kelvins x4069100000000000 200500 0
+mark kelvins x4069100000000000 200500 100000
+mark kelvins x4069100000000000 200500 100001
+mark kelvins x4069100000000000 200500 -1
+mark kelvins x4069100000000000 300500 100000
+mark kelvins x4069100000000000 300501 100000
+mark kelvins x4069100000000000 100500 100000
+mark kelvins x4069100000000000 100499 100000
+mark content x3fa0000000000000 3125 0
+mark content x3fa0000000000000 3126 0
+mark content x3fa0000000000000 1000000000000 0
+mark content x3fa0000000000000 1000000000001 0
+mark content x3fa0000000000000 -1000000000000 0
+mark content x3fa0000000000000 -1000000000001 0
+mark blank 0 100000
+mark blank 0 100001
+mark kelvins x7fefffffffffffff 0 0
+mark kelvins x7ff0000000000000 0 0
+mark kelvins x7ff0000000000001 0 0
+mark kelvins xffefffffffffffff 0 0
+mark kelvins xfff0000000000000 0 0
+mark kelvins xffffffffffffffff 0 0
+station 3 1 4 199999
+station 3 1 4 200000
+station 3 1 4 2000000
+station 3 1 4 2000001";

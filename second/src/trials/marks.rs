@@ -1,0 +1,153 @@
+//! `trial_marks`: typed answers at and beside every kind of edge, station figures, differences.
+
+use crate::answer::fields;
+use crate::dice::Dice;
+use crate::trials::desk::hexadecimal;
+use crate::trials::gas::{lean_charge, REFUSED, SHEETS};
+use crate::trials::EXTREMES;
+
+const FARTHEST: i64 = 1_000_000_000_000;
+const WIDEST: i64 = 100_000;
+
+pub fn requests() -> Vec<String> {
+    let mut dice = Dice::new(0x3a5c);
+    [chosen(), ranges(), edges(&mut dice), powers(), random(&mut dice), stations(&mut dice)]
+        .concat()
+}
+
+fn mark(kind: &str, x: f64, key: i64, window: i64) -> String {
+    fields(&format!("mark\t{kind}\t{}", hexadecimal(x)), &[key, window])
+}
+
+/// Marks of some floats from x up and some keys from one up.
+fn grid(kind: &str, x: f64, floats: i64, key: i64, keys: i64, window: i64) -> String {
+    fields(&format!("grid\t{kind}\t{}", hexadecimal(x)), &[floats, key, keys, window])
+}
+
+/// Five floats about x and nine keys about a key: every one of them is an edge's neighbour.
+fn about(kind: &str, x: f64, key: i64, window: i64) -> String {
+    let (sign, size) = (x.to_bits() >> 63 << 63, x.to_bits() << 1 >> 1);
+    grid(kind, f64::from_bits(sign | size.saturating_sub(2)), 5, key - 4, 9, window)
+}
+
+/// Answers that a rounded product would mark wrongly, far ones, tiny ones, zeros.
+fn chosen() -> Vec<String> {
+    let mut requests = Vec::new();
+    let kelvins = [(0.1, 100), (0.3, 300), (288.16, 288_160), (200.5, 200_500), (-0.1, -100)];
+    let contents = [(0.00001, 1), (-21.11, -2_111_000), (0.03125, 3125), (395.8, 39_580_000)];
+    let tiny = [5e-324, f64::MIN_POSITIVE, -5e-324, -f64::MIN_POSITIVE, 0.0, -0.0];
+    let huge = [9_007_199_254_740_992.0, f64::MAX, -f64::MAX, 1e18, 1e22];
+    for off in -2..=2 {
+        for window in 0..=2 {
+            requests.extend(kelvins.map(|(x, key)| mark("kelvins", x, key + off, window)));
+            requests.extend(contents.map(|(x, key)| mark("content", x, key + off, window)));
+            requests.extend(tiny.map(|x| mark("kelvins", x, off, window)));
+            requests.extend(tiny.map(|x| mark("content", x, off, window)));
+        }
+    }
+    for key in [-FARTHEST, 0, FARTHEST] {
+        requests.extend(huge.map(|x| mark("kelvins", x, key, WIDEST)));
+        requests.extend(huge.map(|x| mark("content", x, key, WIDEST)));
+    }
+    requests
+}
+
+/// Keys and windows at both sides of their ranges with every kind of answer.
+fn ranges() -> Vec<String> {
+    let beside = |limit: i64| [limit - 1, limit, limit + 1];
+    let keys = [&beside(-FARTHEST)[..], &beside(FARTHEST), &EXTREMES].concat();
+    let windows = [&beside(0)[..], &beside(WIDEST), &[i64::MIN, i64::MAX]].concat();
+    let patterns = [
+        0x7ff0_0000_0000_0000,
+        0xfff0_0000_0000_0000,
+        0x7ff8_0000_0000_0000,
+        0xfff8_0000_0000_0000,
+        0x7ff0_0000_0000_0001,
+        0xffff_ffff_ffff_ffff,
+        0x7fef_ffff_ffff_ffff,
+        0x8000_0000_0000_0000,
+    ];
+    let mut requests = Vec::new();
+    for (i, key) in keys.iter().enumerate() {
+        for (j, window) in windows.iter().enumerate() {
+            requests.push(fields("mark\tblank", &[*key, *window]));
+            let kind = ["kelvins", "content"][(i + j) % 2];
+            requests.push(mark(kind, f64::from_bits(patterns[(i + j) % 8]), *key, *window));
+        }
+    }
+    requests
+}
+
+/// Floats about (key ± window) / scale, for keys and windows of every size.
+fn edges(dice: &mut Dice) -> Vec<String> {
+    let mut request = |_| {
+        let (kind, scale) = dice.one_of(&[("kelvins", 1000.0), ("content", 100_000.0)]);
+        let random = dice.from_to(-FARTHEST, FARTHEST) >> dice.below(41);
+        let key = dice.one_of(&[random, random, random, random, -FARTHEST, FARTHEST, 0, 1, -1]);
+        let random = dice.from_to(0, WIDEST) >> dice.below(17);
+        let window = dice.one_of(&[random, random, random, 0, 1, 2, WIDEST]);
+        let edge = dice.one_of(&[key - window, key + window]);
+        about(kind, edge as f64 / scale, key, window)
+    };
+    (0..2000).map(&mut request).collect()
+}
+
+/// Floats about powers of two, where floats lie closer below than above, with the whole key
+/// nearest to it; the smallest float and the smallest normal one as well.
+fn powers() -> Vec<String> {
+    let biased = (1023 - 60..=1023 + 54).chain([1, 500, 1500, 2046]);
+    let patterns = [1].into_iter().chain(biased.map(|exponent: u64| exponent << 52));
+    let mut requests = Vec::new();
+    for x in patterns.map(f64::from_bits) {
+        for (kind, scale) in [("kelvins", 1000.0), ("content", 100_000.0)] {
+            let key = (scale * x).min(1e12) as i64;
+            requests.extend([about(kind, x, key, 0), about(kind, -x, -key, 1)]);
+        }
+    }
+    requests
+}
+
+/// Random bit patterns: whole, and of the sizes that a key can meet.
+fn random(dice: &mut Dice) -> Vec<String> {
+    let mut request = |_| {
+        let kind = dice.one_of(&["kelvins", "content"]);
+        let anything = dice.bits() & !0xff;
+        let exponent = dice.from_to(1023 - 40, 1023 + 31) as u64;
+        let sized = (anything << 12 >> 12) | exponent << 52 | dice.below(2) << 63;
+        let x = f64::from_bits(dice.one_of(&[anything, sized, sized]));
+        let scale = if kind == "kelvins" { 1000.0 } else { 100_000.0 };
+        let key = (scale * x).clamp(-1e12, 1e12) as i64;
+        let window = dice.from_to(0, WIDEST) >> dice.below(17);
+        let off = dice.one_of(&[0, window, -window, WIDEST]);
+        let key = (key + off).clamp(-FARTHEST, FARTHEST - 4);
+        grid(kind, x, 10, key, 5, window)
+    };
+    (0..400).map(&mut request).collect()
+}
+
+/// Station figures and differences in their bits.
+fn stations(dice: &mut Dice) -> Vec<String> {
+    let mut requests = Vec::new();
+    for sheet in SHEETS {
+        requests.push(fields("sheet", sheet));
+        for _ in 0..12 {
+            let mut station = || {
+                let [a, c, h] = lean_charge(dice);
+                let random = dice.from_to(200_000, 2_000_000);
+                [a, c, h, dice.one_of(&[random, random, random, 200_000, 288_160, 2_000_000])]
+            };
+            let (one, other) = (station(), station());
+            requests.push(fields("figures", &one));
+            requests.push(fields("station", &one));
+            requests.push(fields("differences", &[one, other].concat()));
+            requests.push(fields("differences", &[one, one].concat()));
+        }
+    }
+    for sheet in REFUSED.iter().chain(&SHEETS[..1]) {
+        requests.push(fields("sheet", sheet));
+        for [a, c, h, mk] in [[3, 1, 4, 300_000], [3, 1, 4, 0], [1, 1, 0, 0], [0, 1, 0, 0]] {
+            requests.push(fields("station", &[a, c, h, mk]));
+        }
+    }
+    requests
+}
