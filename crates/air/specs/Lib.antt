@@ -1,5 +1,6 @@
 pub mod Refusals
 pub mod RefusalsLaws
+pub mod OrdersLaws
 pub mod Readings
 pub mod Halving
 pub mod Inverse

@@ -1,0 +1,71 @@
+use borrow.Author.Needs.{needs}
+use mathlib.Core.Path.{refl, sym, ap, _∙_}
+use Prim.Native.Nat.{_+_, _*_, _/_, _%_, _<_}
+use native.Mathlib.Omega.{arith}
+use lib.Arith.{lt-of-le-ne}
+use mir.Syntax.{w64}
+use mir.Val.{SFits}
+use Rattle.signed.specs.Zed.{Tested, tested-plain, tested-nat}
+use Rattle.gas.specs.Heat.{heatOf}
+use Rattle.gas.proofs.Lines.{heats-rise, along-heat}
+use Rattle.gas.proofs.heats.at_temperature.Statement.{statement}
+use Rattle.gas.proofs.heats.at_temperature.Tie as tie
+
+t-fits : (s : tie.Start) → SFits w64 (s .args .t .0)
+t-fits s = search needs
+
+-- the temperature, unsigned
+mk : (c : tie.After-to-u64) → Tested 200000 2000000 (c .before .before .before .args .t .0) (c .to-u64 .result)
+mk c = let s = c .before .before .before in tested-nat 200000 2000000 (t-fits s) (sym (s .pre .1)) refl (c .to-u64 .ensures)
+
+not-last : (c : tie.Else1) → c .before .to-u64 .result < 2000000
+not-last c = lt-of-le-ne (mk (c .before) .most) (c .if1 .left)
+
+to-u64-requires : tie.Need-to-u64-requires
+to-u64-requires c κs = let s = c .before .before in tested-plain 200000 2000000 (t-fits s) (sym (s .pre .1)) refl
+
+at-kelvin-requires : tie.Need-at-kelvin-requires
+at-kelvin-requires c κs = search needs
+
+returns : tie.Need-returns
+returns c =
+    let s = c .before .before .before .before .before in
+    c .at-kelvin .ensures ∙ ap (heatOf (s .args .gas) (s .args .sheet .now)) (sym (c .before .if1 .taken) ∙ mk (c .before .before) .number)
+
+at-kelvin-requires-2 : tie.Need-at-kelvin-requires-2
+at-kelvin-requires-2 c κs = (c .before .before .before .before .pre .0, omega (arith, mk (c .before) .least), omega (arith, mk (c .before) .most))
+
+add-at-kelvin : tie.Need-add-at-kelvin
+add-at-kelvin c = search needs
+
+at-kelvin-requires-3 : tie.Need-at-kelvin-requires-3
+at-kelvin-requires-3 c κs = (c .before .before .before .before .before .pre .0, omega (arith, mk (c .before .before) .least), omega (arith, not-last (c .before)))
+
+along-requires : tie.Need-along-requires
+along-requires c κs =
+    let m = mk (c .before .before .before) in
+    (rw (c .before .at-kelvin2 .ensures, c .at-kelvin3 .ensures) (heats-rise (c .before .before .before .before .before .before .pre .0) _ (omega (arith, m .least)) (omega (arith, not-last (c .before .before)))), omega arith)
+
+returns-2 : tie.Need-returns-2
+returns-2 c =
+    let s = c .before .before .before .before .before .before .before in
+    let n = c .before .before .before .before .to-u64 .result in
+    let m = mk (c .before .before .before .before) in
+    c .along .ensures
+    ∙ rw (c .before .before .at-kelvin2 .ensures, c .before .at-kelvin3 .ensures)
+    (along-heat (s .pre .0) (n / 1000) (omega (arith, m .least)) (omega (arith, not-last (c .before .before .before))) (n % 1000) (omega arith))
+    ∙ ap (heatOf (s .args .gas) (s .args .sheet .now)) {x = 1000 * (n / 1000) + n % 1000} {y = n} (omega arith)
+    ∙ ap (heatOf (s .args .gas) (s .args .sheet .now)) (m .number)
+
+pub at-temperature-spec : {M : Type 1} → statement M
+at-temperature-spec =
+    tie.close
+    (tie.spec
+    to-u64-requires
+    at-kelvin-requires
+    returns
+    at-kelvin-requires-2
+    add-at-kelvin
+    at-kelvin-requires-3
+    along-requires
+    returns-2)

@@ -1,0 +1,25 @@
+use borrow.Author.Needs.{needs}
+use mathlib.Core.Path.{refl}
+use mir.Syntax.{w64}
+use mir.Val.{SFits}
+use Rattle.signed.specs.Zed.{back}
+use Rattle.gas.specs.Burning.{lean}
+use Rattle.gas.specs.Heat.{massesOf}
+use Rattle.gas.proofs.inner.lean.Statement.{statement}
+use Rattle.gas.proofs.inner.lean.Tie as tie
+
+weigh-requires : tie.Need-weigh-requires
+weigh-requires c κs = search needs
+
+oxygen-requires : tie.Need-oxygen-requires
+oxygen-requires c κs = search needs
+
+returns : tie.Need-returns
+unfolding lean massesOf
+returns c =
+    let u : SFits w64 (c .before .before .before .weigh .result .used) = search needs in
+    let o : SFits w64 (c .before .before .oxygen .result) = search needs in
+    rw (back u, back o, c .before .before .before .weigh .ensures, c .before .before .oxygen .ensures) refl
+
+pub lean-spec : {M : Type 1} → statement M
+lean-spec = tie.close (tie.spec weigh-requires oxygen-requires returns)

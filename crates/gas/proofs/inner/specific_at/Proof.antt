@@ -1,0 +1,32 @@
+use borrow.Author.Needs.{needs}
+use mathlib.Core.Path.{refl, _∙_}
+use mir.Val.{SFits}
+use mir.Syntax.{w64}
+use Rattle.signed.specs.Zed.{back}
+use Rattle.gas.specs.Heat.{specificContent}
+use Rattle.gas.proofs.inner.specific_at.Statement.{statement}
+use Rattle.gas.proofs.inner.specific_at.Tie as tie
+
+-- src/inner.rt:134:9
+content-at-requires : tie.Need-content-at-requires
+content-at-requires c κs = search needs
+
+-- src/inner.rt:135:33
+total-mass-requires : tie.Need-total-mass-requires
+total-mass-requires c κs = search needs
+
+-- src/inner.rt:135:5
+quotient-requires : tie.Need-quotient-requires
+quotient-requires c κs = search needs
+
+-- src/inner.rt:130:1
+returns : tie.Need-returns
+unfolding specificContent
+returns c =
+    let f : SFits w64 (c .before .before .before .content-at .result .0) = search needs in
+    let q : SFits w64 (c .quotient .result) = search needs in
+    back q ∙ c .quotient .ensures ∙ rw (back f, c .before .before .before .content-at .ensures, c .before .before .total-mass .ensures) refl
+
+pub specific-at-spec : {M : Type 1} → statement M
+specific-at-spec =
+    tie.close (tie.spec content-at-requires total-mass-requires quotient-requires returns)

@@ -1,0 +1,97 @@
+-- What an order of refusals that is clear says of the inputs, and the temperature of a heat past its lines. Assumes nothing.
+use borrow.Author.Tests.{not-false, ltb-false}
+use mathlib.Core.Path.{_≡_, refl, sym, ap, _∙_}
+use mathlib.Core.Bool.{true}
+use mathlib.Core.List.{List, [], _∷_, _++_}
+use Prim.Native.Nat.{ℕ, _≤_}
+use lib.Dec.{ltb}
+use lib.IntN.{ℤ, pos}
+use Rattle.signed.specs.Zed.{inZ}
+use Rattle.air.specs.declared.Refusal.{Refusal}
+use Rattle.air.specs.declared.Refusal.the-variants.{Plain, AtRow}
+use Rattle.air.specs.Refusals.{gives, refused, Line, _when_, toldBy, first, First, Clear, none, clear}
+use Rattle.air.specs.RefusalsLaws.{refusal-given, values-given}
+use Rattle.air.specs.Inverse.{looks, unreached, Found, found, written}
+use Rattle.air.specs.InverseLaws.{refusal-writes-nothing}
+use Rattle.sheet.specs.Sheet.{Accepted}
+use Rattle.sheet.specs.Answers.{sheetLines}
+use Rattle.sheet.specs.AnswersLaws.{accepted-of-told}
+use Rattle.gas.specs.declared.Charge.{Charge}
+use Rattle.gas.specs.declared.Gas.{Gas}
+use Rattle.gas.specs.declared.TemperatureAnswer.{TemperatureAnswer}
+use Rattle.gas.specs.declared.TemperatureAnswer.the-variants.{Refused}
+use Rattle.gas.specs.Burning.{Weights, gasOf, Burns}
+use Rattle.gas.specs.BurningLaws.{burns-of}
+use Rattle.gas.specs.Answers.{paperTemperature, chargeLines, temperatureLines, heatOrder, searchOrder, Inverse}
+use Rattle.air.specs.OrdersLaws.{stopped, passed, clear-order, clear-left, clear-right, given}
+use Rattle.gas.specs.Search.{Searched}
+
+-- ---- a sheet, a charge and a temperature that are not refused
+accepted-of : (s : List ℕ) (ls : List Line) → Clear (sheetLines s ++ ls) → Accepted s
+accepted-of s ls c = accepted-of-told s (values-given tt (clear-left (sheetLines s) ls c))
+
+covered-of : (mk : ℤ) → Clear (temperatureLines mk) → inZ (pos 200000) (pos 2000000) mk ≡ true
+covered-of mk (clear h none) = not-false _ h
+
+-- past 1, 3, 4, 5, 6
+pub record Readable (w : Weights) (mk : ℤ) (s : List ℕ) (g : Gas) : Type 0 where
+  pub burns : Burns w g
+  pub accepted : Accepted s
+  pub covered : inZ (pos 200000) (pos 2000000) mk ≡ true
+
+pub readable-of : (w : Weights) (ch : Charge) (mk : ℤ) (s : List ℕ) {g : Gas} → gives g ≡ first (heatOrder w ch mk s) (gasOf ch) → Readable w mk s g
+readable-of w ch mk s e =
+    let c = clear-order (heatOrder w ch mk s) (gasOf ch) e in
+    let r = clear-right (sheetLines s) (chargeLines w ch ++ temperatureLines mk) c in
+    rw (← given (heatOrder w ch mk s) (gasOf ch) e)
+    (record {
+      burns = burns-of w ch (clear-left (chargeLines w ch) (temperatureLines mk) r);
+      accepted = accepted-of s (chargeLines w ch ++ temperatureLines mk) c;
+      covered = covered-of mk (clear-right (chargeLines w ch) (temperatureLines mk) r);
+    })
+
+-- past 1, 3, 10, 4, 5
+pub record Searchable (w : Weights) (s : List ℕ) (places : ℕ) (g : Gas) : Type 0 where
+  pub burns : Burns w g
+  pub accepted : Accepted s
+  pub room : 11 ≤ places
+
+room-of : (places : ℕ) {ls : List Line} → Clear (10 when ltb places 11 ∷ ls) → (11 ≤ places) × Clear ls
+room-of places (clear h c) = (ltb-false places 11 h, c)
+
+pub searchable-of : (w : Weights) (ch : Charge) (s : List ℕ) (places : ℕ) {g : Gas} → gives g ≡ first (searchOrder w ch s places) (gasOf ch) → Searchable w s places g
+searchable-of w ch s places e =
+    let c = clear-order (searchOrder w ch s places) (gasOf ch) e in
+    let r = room-of places (clear-right (sheetLines s) (10 when ltb places 11 ∷ chargeLines w ch) c) in
+    rw (← given (searchOrder w ch s places) (gasOf ch) e)
+    (record { burns = burns-of w ch (r .1); accepted = accepted-of s (10 when ltb places 11 ∷ chargeLines w ch) c; room = r .0 })
+
+-- ---- the temperature of a heat
+module _ (v : ℕ → ℤ) (target : ℤ) (before : List ℕ) where
+  -- 8 or 9: nothing is written
+  pub unreached-told : (r : TemperatureAnswer) {l : Line} → First (unreached v target) l → paperTemperature r ≡ toldBy l → Inverse [] v target before r before
+  unreached-told r {l} f e =
+      let g = refusal-given (found v target) f in
+      record { told = e ∙ sym g; list = rw g (sym (refusal-writes-nothing Found l (looks v target) before)) }
+
+  -- a target that is reached
+  pub reached-told : {r : TemperatureAnswer} {after : List ℕ} → Clear (unreached v target) → Searched v target before r after → Inverse [] v target before r after
+  reached-told c h =
+      let g = values-given (found v target) c in
+      record { told = ap paperTemperature (h .answer) ∙ sym g; list = rw g (h .list) }
+
+  module _ {A : Type 0} (lines : List Line) (a : A) where
+    -- a refusal of the lines before: nothing is written
+    pub stopped-told : (r : Refusal) → refused r ≡ first lines a → Inverse lines v target before (Refused r) before
+    stopped-told r e = record {
+      told = stopped lines (unreached v target) a (found v target) r e;
+      list = rw (← stopped lines (unreached v target) a (found v target) r e) (leaves r);
+    }
+      where
+        leaves : (q : Refusal) → before ≡ written (refused {A = Found} q) (looks v target) before
+        leaves (Plain n) = refl
+        leaves (AtRow n row) = refl
+
+    -- past those lines
+    pub passed-told : {x : A} {r : TemperatureAnswer} {after : List ℕ} → gives x ≡ first lines a → Inverse [] v target before r after → Inverse lines v target before r after
+    passed-told e h = let p = passed lines (unreached v target) a (found v target) e in record { told = h .told ∙ sym p; list = rw p (h .list) }

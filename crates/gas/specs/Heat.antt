@@ -1,0 +1,41 @@
+-- Gas heat, content above 15 °C and specific content (document 01, "Burning"). A gas heat is in mg times 0.00001 C.H.U./lb, a signed number; a
+-- temperature in mK; a sheet is its list of numbers.
+use mathlib.Core.List.{List}
+use Prim.Native.Nat.{ℕ, _*_}
+use lib.IntN.{ℤ, pos, _+ℤ_, _-ℤ_, _*ℤ_}
+use lib.Signed.{quotZ}
+use Rattle.signed.specs.Zed.{up}
+use Rattle.rows.specs.Table.{airH}
+use Rattle.air.specs.Readings.{between, airHeat}
+use Rattle.sheet.specs.Sheet.{o2, co2, h2o, rise}
+use Rattle.gas.specs.declared.Gas.{Gas}
+use Rattle.gas.specs.declared.Masses.{Masses}
+use Rattle.gas.specs.Burning.{Weights, co2Weight, h2oWeight, oxygenUsed, totalMass}
+
+-- the masses that take part in the heat: 100000A, oxygen used, CO2 mass, H2O mass
+unfoldable pub massesOf : Weights → Gas → Masses
+massesOf w g = record { air = w .airPart * g .air; used = oxygenUsed w g; co2 = co2Weight w * g .carbon; h2o = h2oWeight w * g .hydrogen }
+
+-- 100000A times air heat, less oxygen used times O2 heat, plus CO2 mass times CO2 heat, plus H2O mass times H2O heat
+unfoldable pub heatSum : Masses → ℕ → ℕ → ℕ → ℕ → ℤ
+heatSum m air oxygen dioxide water = pos (m .air) *ℤ pos air -ℤ m .used *ℤ pos oxygen +ℤ pos (m .co2) *ℤ pos dioxide +ℤ pos (m .h2o) *ℤ pos water
+
+-- gases read between kelvins as air is
+unfoldable pub heatOf : Masses → List ℕ → ℕ → ℤ
+heatOf m s T = heatSum m (airHeat T) (between (o2 s) T) (between (co2 s) T) (between (h2o s) T)
+
+-- what it rises by with each mK from the kelvin k to the next: the same sum, of what each gas rises by
+unfoldable pub heatSlope : Masses → List ℕ → ℕ → ℕ
+heatSlope m s k = up (heatSum m (rise airH k) (rise (o2 s) k) (rise (co2 s) k) (rise (h2o s) k))
+
+-- gas heat at T
+abbrev pub gasHeat : Weights → List ℕ → Gas → ℕ → ℤ
+gasHeat w s g T = heatOf (massesOf w g) s T
+
+-- content above 15 °C: gas heat at T less gas heat at 288,160 mK of the same charge
+abbrev pub contentAbove15 : Weights → List ℕ → Gas → ℕ → ℤ
+contentAbove15 w s g T = gasHeat w s g T -ℤ gasHeat w s g 288160
+
+-- specific content: content above 15 °C divided by total mass, the fraction dropped
+unfoldable pub specificContent : Weights → List ℕ → Gas → ℕ → ℤ
+specificContent w s g T = quotZ (contentAbove15 w s g T) (pos (totalMass w g))

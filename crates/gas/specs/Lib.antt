@@ -1,0 +1,12 @@
+pub mod Burning
+pub mod Heat
+pub mod Answers
+pub mod Sizes
+pub mod Search
+pub mod BurningLaws
+pub mod HeatLaws
+pub mod BoundsLaws
+pub mod RestLaws
+pub mod AnswersLaws
+pub mod OneOutcome
+pub mod Examples

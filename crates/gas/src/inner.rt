@@ -1,0 +1,159 @@
+// The inner doors of gas, for the walk and the figures above: a charge tested in parts, and its heats and its search over a sheet that was judged once, with
+// the air column lent. The callers of those that require have tested it.
+use crate::Charge;
+use crate::Gas;
+use crate::Heat;
+use crate::TemperatureAnswer;
+use crate::burning;
+use crate::heats;
+use crate::search;
+use air::Millikelvin;
+use air::Refusal;
+ghost use mathlib.Core.Path.{_≡_};
+ghost use mathlib.Core.Bool.{true, false};
+ghost use mathlib.Core.List.{[], _++_};
+ghost use Prim.Native.Nat.{_≤_};
+ghost use lib.IntN.{pos};
+ghost use lib.ListN.{length};
+ghost use Rattle.signed.specs.Zed.{up, inZ};
+ghost use Rattle.rows.specs.Rows.{rowsH};
+ghost use Rattle.air.specs.Refusals.{first};
+ghost use Rattle.sheet.specs.Sheet.{Accepted};
+ghost use Rattle.gas.specs.Burning.{document01, gasOf, beyond as Burning·beyond, Limits, lean as Burning·lean, Burns, fuelMass, totalMass};
+ghost use Rattle.gas.specs.Heat.{gasHeat, contentAbove15, specificContent};
+ghost use Rattle.gas.specs.Answers.{paperGas, chargeLines, temperatureLines, Inverse};
+
+// A charge that burns lean within its limits, or the refusal.
+pub enum Admitted {
+    Burning(Gas),
+    Refused(Refusal),
+}
+
+// Whether A, c or h is outside its limit.
+pub fn beyond(charge: Charge) -> bool
+    ensures { λ r. ⌜ r ≡ Burning·beyond document01 charge ⌝ }
+{
+    if !signed::inside(charge.air, 1, burning::MOST_AIR) {
+        return true;
+    }
+    if !signed::inside(charge.carbon, 0, burning::MOST_ATOMS) {
+        return true;
+    }
+    !signed::inside(charge.hydrogen, 0, burning::MOST_ATOMS)
+}
+
+// A charge within its limits, unsigned.
+pub fn gas_of(charge: Charge) -> Gas
+    requires { ⌜ Burning·beyond document01 charge ≡ false ⌝ }
+    ensures { λ r. ⌜ r ≡ gasOf charge ⌝ }
+{
+    Gas {
+        air: signed::to_u64(charge.air),
+        carbon: signed::to_u64(charge.carbon),
+        hydrogen: signed::to_u64(charge.hydrogen),
+    }
+}
+
+// Whether the air has the oxygen for all the fuel.
+pub fn lean(gas: Gas) -> bool
+    requires { ⌜ Limits document01 gas ⌝ }
+    ensures { λ r. ⌜ r ≡ Burning·lean document01 gas ⌝ }
+{
+    let masses = burning::weigh(gas);
+    masses.used <= burning::oxygen(gas)
+}
+
+// The gas of a charge, refusals 4 and 5 tested.
+pub fn admit(charge: Charge) -> Admitted
+    ensures { λ r. ⌜ paperGas r ≡ first (chargeLines document01 charge) (gasOf charge) ⌝ }
+{
+    if beyond(charge) {
+        return Admitted::Refused(Refusal::Plain(crate::LIMIT));
+    }
+    let gas = gas_of(charge);
+    if !lean(gas) {
+        return Admitted::Refused(Refusal::Plain(crate::RICH));
+    }
+    Admitted::Burning(gas)
+}
+
+// The gas of a charge at a temperature, refusals 4, 5 and 6 tested.
+pub fn admit_at(charge: Charge, t: Millikelvin) -> Admitted
+    ensures { λ r. ⌜ paperGas r ≡ first (chargeLines document01 charge ++ temperatureLines (t .0)) (gasOf charge) ⌝ }
+{
+    match admit(charge) {
+        Admitted::Refused(r) => Admitted::Refused(r),
+        Admitted::Burning(gas) => {
+            if air::inner::covered(t) {
+                Admitted::Burning(gas)
+            } else {
+                Admitted::Refused(Refusal::Plain(air::TEMPERATURE))
+            }
+        }
+    }
+}
+
+// The mass of the fuel.
+pub fn fuel_mass(gas: Gas) -> u64
+    requires { ⌜ Limits document01 gas ⌝ }
+    ensures { λ r. ⌜ r ≡ fuelMass document01 gas ⌝ }
+{
+    burning::CARBON * gas.carbon + burning::HYDROGEN * gas.hydrogen
+}
+
+// The mass of the air and the fuel.
+pub fn total_mass(gas: Gas) -> u64
+    requires { ⌜ Limits document01 gas ⌝ }
+    ensures { λ r. ⌜ r ≡ totalMass document01 gas ⌝ }
+{
+    burning::AIR * gas.air + fuel_mass(gas)
+}
+
+// The gas heat at a temperature.
+pub fn heat_at(gas: Gas, t: Millikelvin, sheet: &[u32], air: &[u32; 1801]) -> Heat
+    requires { ⌜ Burns document01 gas × Accepted (now sheet) × (now air ≡ rowsH) × (inZ (pos 200000) (pos 2000000) (t .0) ≡ true) ⌝ }
+    ensures { λ r. ⌜ r .0 ≡ gasHeat document01 (now (sheet .entry)) gas (up (t .0)) ⌝ }
+{
+    heats::at_temperature(burning::weigh(gas), t, sheet, air)
+}
+
+// The content above 15 °C at a temperature.
+pub fn content_at(gas: Gas, t: Millikelvin, sheet: &[u32], air: &[u32; 1801]) -> Heat
+    requires { ⌜ Burns document01 gas × Accepted (now sheet) × (now air ≡ rowsH) × (inZ (pos 200000) (pos 2000000) (t .0) ≡ true) ⌝ }
+    ensures { λ r. ⌜ r .0 ≡ contentAbove15 document01 (now (sheet .entry)) gas (up (t .0)) ⌝ }
+{
+    let fifteen = heat_at(gas, Millikelvin(288160), sheet, air);
+    heats::less(heat_at(gas, t, sheet, air), fifteen)
+}
+
+// The specific content at a temperature.
+pub fn specific_at(gas: Gas, t: Millikelvin, sheet: &[u32], air: &[u32; 1801]) -> i64
+    requires { ⌜ Burns document01 gas × Accepted (now sheet) × (now air ≡ rowsH) × (inZ (pos 200000) (pos 2000000) (t .0) ≡ true) ⌝ }
+    ensures { λ r. ⌜ r ≡ specificContent document01 (now (sheet .entry)) gas (up (t .0)) ⌝ }
+{
+    let content = content_at(gas, t, sheet, air);
+    signed::quotient(content.0, total_mass(gas))
+}
+
+// The temperature of a heat with the rest, refusals 8 and 9 tested. The looks go into the first eleven places of the list, 0 where unused.
+pub fn find(
+    gas: Gas,
+    target: Heat,
+    looks: &mut [u32],
+    sheet: &[u32],
+    air: &[u32; 1801],
+) -> TemperatureAnswer
+    requires { ⌜ Burns document01 gas × Accepted (now sheet) × (now air ≡ rowsH) × (11 ≤ length (now looks)) ⌝ }
+    ensures { λ r. ⌜ Inverse [] (gasHeat document01 (now (sheet .entry)) gas) (target .0) (now (looks .entry)) r (now (looks .exit)) ⌝ }
+{
+    let masses = burning::weigh(gas);
+    let first = heats::at_kelvin(masses, 200, sheet, air);
+    if target.0 < first.0 {
+        return TemperatureAnswer::Refused(Refusal::Plain(air::BELOW));
+    }
+    let last = heats::at_kelvin(masses, 2000, sheet, air);
+    if last.0 < target.0 {
+        return TemperatureAnswer::Refused(Refusal::Plain(air::ABOVE));
+    }
+    search::reached(target, first, last, looks, masses, sheet, air)
+}

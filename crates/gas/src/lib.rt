@@ -1,0 +1,171 @@
+// The gas (document 01, "Burning" and "Temperature from heat"): what a charge burns to, its heat, contents and specific content, and the temperature of a heat.
+// Every call takes every input and judges a sheet list that it is lent first, once. What an answer tells, in the paper's numbers (specs/Answers.antt), is the
+// first refusal of its order whose condition holds, else the paper's formula in whole numbers (specs/Burning.antt, specs/Heat.antt).
+mod burning;
+mod heats;
+pub mod inner;
+mod search;
+
+use air::Millikelvin;
+use air::Refusal;
+use inner::Admitted;
+use sheet::SheetAnswer;
+ghost use mathlib.Core.Path.{_≡_};
+ghost use Rattle.rows.specs.Rows.{rowsH};
+ghost use Rattle.air.specs.Refusals.{first};
+ghost use Rattle.gas.specs.Burning.{document01, gasOf};
+ghost use Rattle.gas.specs.Answers.{paperBurn, paperHeat, paperSpecific, paperGas, heatOrder, searchOrder, burnTold, heatTold, contentTold, specificTold, Temperature};
+
+// A gas heat, in mg times 0.00001 C.H.U./lb.
+pub struct Heat(pub i64);
+
+// A charge: parts of air of 100 g, moles of carbon, moles of hydrogen atoms.
+pub struct Charge {
+    pub air: i64,
+    pub carbon: i64,
+    pub hydrogen: i64,
+}
+
+// A charge whose numbers are within their limits, unsigned.
+pub struct Gas {
+    pub air: u64,
+    pub carbon: u64,
+    pub hydrogen: u64,
+}
+
+// What a charge burns to, in mg.
+pub struct Products {
+    pub co2: u64,
+    pub h2o: u64,
+    pub o2: u64,
+    pub n2: u64,
+    pub ar: u64,
+}
+
+// The masses that take part in a gas heat, in mg: the air, the oxygen used, CO2 and H2O.
+pub struct Masses {
+    pub air: u64,
+    pub used: i64,
+    pub co2: u64,
+    pub h2o: u64,
+}
+
+// The products, or the refusal.
+pub enum BurnAnswer {
+    Is(Products),
+    Refused(Refusal),
+}
+
+// A gas heat or a content, or the refusal.
+pub enum HeatAnswer {
+    Is(Heat),
+    Refused(Refusal),
+}
+
+// A specific content in 0.00001 C.H.U./lb, or the refusal.
+pub enum SpecificAnswer {
+    Is(i64),
+    Refused(Refusal),
+}
+
+// The temperature of a heat with the rest, or the refusal.
+pub enum TemperatureAnswer {
+    At(Millikelvin, Heat),
+    Refused(Refusal),
+}
+
+// A, c or h outside its limit
+pub const LIMIT: u32 = 4;
+// not lean
+pub const RICH: u32 = 5;
+
+// What a charge burns to.
+pub fn burn(air: i64, carbon: i64, hydrogen: i64) -> BurnAnswer
+    ensures { λ r. ⌜ paperBurn r ≡ burnTold document01 (record { air = air; carbon = carbon; hydrogen = hydrogen }) ⌝ }
+{
+    let charge = Charge {
+        air: air,
+        carbon: carbon,
+        hydrogen: hydrogen,
+    };
+    match inner::admit(charge) {
+        Admitted::Burning(gas) => BurnAnswer::Is(burning::burnt(gas)),
+        Admitted::Refused(r) => BurnAnswer::Refused(r),
+    }
+}
+
+// The gas of a charge to be read at a temperature: refusals 1, 3, 4, 5 and 6 tested.
+fn readable(charge: Charge, t: Millikelvin, sheet: &[u32], air: &[u32; 1801]) -> Admitted
+    requires { ⌜ now air ≡ rowsH ⌝ }
+    ensures { λ r. ⌜ paperGas r ≡ first (heatOrder document01 charge (t .0) (now (sheet .entry))) (gasOf charge) ⌝ }
+{
+    match sheet::inner::judge(sheet, air) {
+        SheetAnswer::Refused(r) => Admitted::Refused(r),
+        SheetAnswer::Good => inner::admit_at(charge, t),
+    }
+}
+
+// The gas of a charge to be searched, with so many places for looks: refusals 1, 3, 10, 4 and 5 tested.
+fn searchable(charge: Charge, sheet: &[u32], places: usize, air: &[u32; 1801]) -> Admitted
+    requires { ⌜ now air ≡ rowsH ⌝ }
+    ensures { λ r. ⌜ paperGas r ≡ first (searchOrder document01 charge (now (sheet .entry)) places) (gasOf charge) ⌝ }
+{
+    match sheet::inner::judge(sheet, air) {
+        SheetAnswer::Refused(r) => Admitted::Refused(r),
+        SheetAnswer::Good => {
+            if places < 11 {
+                return Admitted::Refused(Refusal::Plain(air::LIST_SHORT));
+            }
+            inner::admit(charge)
+        }
+    }
+}
+
+// The gas heat of a charge at a temperature.
+pub fn gas_heat(charge: Charge, t: Millikelvin, sheet: &[u32]) -> HeatAnswer
+    ensures { λ r. ⌜ paperHeat r ≡ heatTold document01 charge (t .0) (now (sheet .entry)) ⌝ }
+{
+    let air = rows::columns::heat_column();
+    match readable(charge, t, sheet, &air) {
+        Admitted::Burning(gas) => HeatAnswer::Is(inner::heat_at(gas, t, sheet, &air)),
+        Admitted::Refused(r) => HeatAnswer::Refused(r),
+    }
+}
+
+// The content of a charge above 15 °C at a temperature.
+pub fn content(charge: Charge, t: Millikelvin, sheet: &[u32]) -> HeatAnswer
+    ensures { λ r. ⌜ paperHeat r ≡ contentTold document01 charge (t .0) (now (sheet .entry)) ⌝ }
+{
+    let air = rows::columns::heat_column();
+    match readable(charge, t, sheet, &air) {
+        Admitted::Burning(gas) => HeatAnswer::Is(inner::content_at(gas, t, sheet, &air)),
+        Admitted::Refused(r) => HeatAnswer::Refused(r),
+    }
+}
+
+// The specific content of a charge at a temperature, the fraction dropped.
+pub fn specific_content(charge: Charge, t: Millikelvin, sheet: &[u32]) -> SpecificAnswer
+    ensures { λ r. ⌜ paperSpecific r ≡ specificTold document01 charge (t .0) (now (sheet .entry)) ⌝ }
+{
+    let air = rows::columns::heat_column();
+    match readable(charge, t, sheet, &air) {
+        Admitted::Burning(gas) => SpecificAnswer::Is(inner::specific_at(gas, t, sheet, &air)),
+        Admitted::Refused(r) => SpecificAnswer::Refused(r),
+    }
+}
+
+// The greatest temperature whose gas heat is at most the target, with the rest. The looks go into the first eleven places of the list, 0 where unused.
+pub fn temperature(
+    charge: Charge,
+    target: Heat,
+    sheet: &[u32],
+    looks: &mut [u32],
+) -> TemperatureAnswer
+    ensures { λ r. ⌜ Temperature document01 charge (target .0) (now (sheet .entry)) (now (looks .entry)) r (now (looks .exit)) ⌝ }
+{
+    let air = rows::columns::heat_column();
+    match searchable(charge, sheet, looks.len(), &air) {
+        Admitted::Burning(gas) => inner::find(gas, target, looks, sheet, &air),
+        Admitted::Refused(r) => TemperatureAnswer::Refused(r),
+    }
+}
