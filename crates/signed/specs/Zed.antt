@@ -317,6 +317,18 @@ in-plain lo hi f e = e ∙ ap (inZ lo hi) (back f)
 abbrev pub outside : ℤ → ℤ → ℤ → Bool
 outside lo hi x = not (inZ lo hi x)
 
+pub outside-over : (lo hi x : ℤ) → up hi + dn x < up x + dn hi → outside lo hi x ≡ true
+unfolding inZ
+outside-over lo hi x h = rw (no-leZ x hi h) (and-false (leZ lo x))
+  where
+    and-false : (b : Bool) → not (b && false) ≡ true
+    and-false true = refl
+    and-false false = refl
+
+pub not-outside : (lo hi x : ℤ) → up lo + dn x ≤ up x + dn lo → up x + dn hi ≤ up hi + dn x → outside lo hi x ≡ false
+unfolding inZ
+not-outside lo hi x h k = rw (yes-leZ lo x h, yes-leZ x hi k) refl
+
 unfoldable pub eqZ : ℤ → ℤ → Bool
 eqZ x y = leZ x y && leZ y x
 

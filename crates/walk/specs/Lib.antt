@@ -1,0 +1,11 @@
+pub mod Lists
+pub mod Step
+pub mod Walk
+pub mod Work
+pub mod Ledger
+pub mod RunLaws
+pub mod LedgerLaws
+pub mod Demand3
+pub mod Demand3Laws
+pub mod OneOutcome
+pub mod Examples

@@ -1,0 +1,93 @@
+-- One step of a walk (document 01, "The walk"): what it asks, and how it is judged. A step is four signed numbers: carbon added, hydrogen added, calorific value in
+-- hundredths of C.H.U./lb, plain heat q. Heats are gas heats, temperatures mK.
+use mathlib.Core.Bool.{Bool, not, _||_}
+use mathlib.Core.List.{List, [], _∷_}
+use Prim.Native.Nat.{ℕ, _*_}
+use lib.IntN.{ℤ, pos, negℤ, _+ℤ_, _*ℤ_}
+use lib.Signed.{ltZ}
+use Rattle.signed.specs.Zed.{up, outside}
+use Rattle.air.specs.Refusals.{Told, gives, refuses, refusesRow, Line, _when_, first}
+use Rattle.air.specs.Inverse.{temperature, rest, looks, unreached}
+use Rattle.gas.specs.declared.Charge.{Charge}
+use Rattle.gas.specs.declared.Gas.{Gas}
+use Rattle.gas.specs.Burning.{Weights, gasOf, beyond, lean, fuelMass}
+use Rattle.gas.specs.Heat.{gasHeat, contentAbove15}
+use Rattle.walk.specs.declared.Step.{Step}
+
+-- where a walk stands: its gas, and the temperature in mK
+pub record State : Type 0 where
+  pub gas : Gas
+  pub mk : ℕ
+
+-- the content above 15 °C that is held there
+abbrev pub held : Weights → List ℕ → State → ℤ
+held w s st = contentAbove15 w s (st .gas) (st .mk)
+
+-- the charge with the step's atoms added, and the gas that it is
+abbrev pub added : Gas → Step → Charge
+added g p = record { air = pos (g .air); carbon = pos (g .carbon) +ℤ p .carbon; hydrogen = pos (g .hydrogen) +ℤ p .hydrogen }
+
+abbrev pub newGas : Gas → Step → Gas
+newGas g p = gasOf (added g p)
+
+-- the mass of the added fuel × 1000 × the calorific value
+abbrev pub fuelAdded : Step → Gas
+fuelAdded p = record { air = 0; carbon = up (p .carbon); hydrogen = up (p .hydrogen) }
+
+unfoldable pub burnHeat : Weights → Step → ℤ
+burnHeat w p = pos (fuelMass w (fuelAdded p) * 1000) *ℤ p .value
+
+-- step heat: that + q
+abbrev pub stepHeat : Weights → Step → ℤ
+stepHeat w p = burnHeat w p +ℤ p .heat
+
+-- A, c or h outside its limit, or atoms added negative
+abbrev pub wrongAtoms : Weights → Gas → Step → Bool
+wrongAtoms w g p = ltZ (p .carbon) (pos 0) || (ltZ (p .hydrogen) (pos 0) || beyond w (added g p))
+
+-- calorific value (0 to 5,000,000) or q (−10^18 to 10^18) outside range
+abbrev pub wrongHeat : Step → Bool
+wrongHeat p = outside (pos 0) (pos 5000000) (p .value) || outside (negℤ (pos 1000000000000000000)) (pos 1000000000000000000) (p .heat)
+
+-- refusals 4, 7, 5
+abbrev pub askLines : Weights → Gas → Step → List Line
+askLines w g p = 4 when wrongAtoms w g p ∷ 7 when wrongHeat p ∷ 5 when not (lean w (newGas g p)) ∷ []
+
+-- what a step asks: a temperature of the new gas, from a gas heat
+pub record Asked : Type 0 where
+  pub gas : Gas
+  pub target : ℤ
+
+-- target content above 15 °C of the new charge = content of the old charge at its rounded temperature + step heat; as a gas heat, that and the heat at 15 °C
+abbrev pub askedOf : Weights → List ℕ → ℤ → Gas → Step → Asked
+askedOf w s content g p = record { gas = newGas g p; target = content +ℤ stepHeat w p +ℤ gasHeat w s (newGas g p) 288160 }
+
+unfoldable pub asked : Weights → List ℕ → ℤ → Gas → Step → Told Asked
+asked w s content g p = first (askLines w g p) (askedOf w s content g p)
+
+-- a step that is done: the state after it, the rest, and the looks
+pub record Out : Type 0 where
+  pub state : State
+  pub rests : ℤ
+  pub seen : List ℕ
+
+abbrev pub outOf : Weights → List ℕ → Asked → Out
+outOf w s a = record {
+  state = record { gas = a .gas; mk = temperature (gasHeat w s (a .gas)) (a .target) };
+  rests = rest (gasHeat w s (a .gas)) (a .target);
+  seen = looks (gasHeat w s (a .gas)) (a .target);
+}
+
+-- the search: 8 or 9, else the temperature from the target
+unfoldable pub sought : Weights → List ℕ → Asked → Told Out
+sought w s a = first (unreached (gasHeat w s (a .gas)) (a .target)) (outOf w s a)
+
+-- what is told, and if it is not a refusal, what is told of that
+abbrev pub andThen : {A B : Type 0} → Told A → (A → Told B) → Told B
+andThen (gives a) f = f a
+andThen (refuses n) f = refuses n
+andThen (refusesRow n r) f = refusesRow n r
+
+-- a step judged: 4, 7, 5, then 8 or 9
+unfoldable pub judge : Weights → List ℕ → State → Step → Told Out
+judge w s st p = andThen (asked w s (held w s st) (st .gas) p) (sought w s)

@@ -1,0 +1,131 @@
+-- A walk (document 01, "The walk" and "Refusal numbers"): the steps one after the other up to the first that is refused, the refusals before the first step, what
+-- comes back, and what the three lent lists hold on return.
+use mathlib.Core.Bool.{Bool, not, _||_}
+use mathlib.Core.List.{List, [], _∷_, _++_, map}
+use mathlib.Core.Path.{_≡_}
+use Prim.Native.Nat.{ℕ, zero, suc, _*_, _/_, _%_}
+use lib.Dec.{ltb, eqb}
+use lib.IntN.{ℤ, pos}
+use lib.ListN.{length, getD, drop}
+use Rattle.signed.specs.Zed.{up}
+use Rattle.air.specs.Refusals.{Told, gives, refuses, refusesRow, refused, Line, _when_, first}
+use Rattle.air.specs.Halving.{eleven}
+use Rattle.gas.specs.declared.Charge.{Charge}
+use Rattle.gas.specs.declared.Gas.{Gas}
+use Rattle.gas.specs.Burning.{Weights, gasOf}
+use Rattle.gas.specs.Answers.{chargeLines, temperatureLines}
+use Rattle.walk.specs.declared.WalkAnswer.{WalkAnswer}
+use Rattle.walk.specs.declared.WalkAnswer.the-variants.{Done, Stopped, Refused}
+use Rattle.walk.specs.Lists.{laid}
+use Rattle.walk.specs.declared.Step.{Step}
+use Rattle.walk.specs.Step.{State, Out, judge}
+
+-- each step is four signed 64-bit numbers; walks of up to 64 steps
+abbrev pub width : ℕ
+width = 4
+
+abbrev pub mostSteps : ℕ
+mostSteps = 64
+
+abbrev pub stepAt : List ℤ → Step
+stepAt l = record { carbon = getD l 0 (pos 0); hydrogen = getD l 1 (pos 0); value = getD l 2 (pos 0); heat = getD l 3 (pos 0) }
+
+-- the first n steps of a list of numbers
+unfoldable pub stepsOf : ℕ → List ℤ → List Step
+stepsOf zero l = []
+stepsOf (suc n) l = stepAt l ∷ stepsOf n (drop width l)
+
+-- ---- the run over the steps
+-- how it ends: after the last step, or before a step that is refused with this number
+pub data End : Type 0 where
+  ended : State → End
+  cut : ℕ → State → End
+
+-- the steps that were done, and the end
+pub record Trace : Type 0 where
+  pub outs : List Out
+  pub end : End
+
+abbrev pub more : Out → Trace → Trace
+more o t = record { outs = o ∷ t .outs; end = t .end }
+
+-- a refused step ends the walk; from a done one it goes on
+abbrev pub onward : State → Told Out → (State → Trace) → Trace
+onward st (gives o) k = more o (k (o .state))
+onward st (refuses n) k = record { outs = []; end = cut n st }
+onward st (refusesRow n r) k = record { outs = []; end = cut n st }
+
+unfoldable pub run : Weights → List ℕ → State → List Step → Trace
+run w s st [] = record { outs = []; end = ended st }
+run w s st (p ∷ ps) = onward st (judge w s st p) (λ q. run w s q ps)
+
+-- ---- the start
+-- 13: steps list not a multiple of four long, or over 256
+abbrev pub wrongSteps : ℕ → Bool
+wrongSteps numbers = not (eqb (numbers % width) 0) || ltb (width * mostSteps) numbers
+
+-- 10: for n steps, the temperature or rest list is shorter than n, or the looks list shorter than 11n
+abbrev pub shortLists : ℕ → ℕ → ℕ → ℕ → Bool
+shortLists n temperatures rests looks = ltb temperatures n || (ltb rests n || ltb looks (11 * n))
+
+-- 13, 10, then the starting charge (4, 5) and temperature (6)
+abbrev pub startLines : Weights → Charge → ℤ → ℕ → ℕ → ℕ → ℕ → List Line
+startLines w ch mk numbers temperatures rests looks =
+    13 when wrongSteps numbers ∷ 10 when shortLists (numbers / width) temperatures rests looks ∷ (chargeLines w ch ++ temperatureLines mk)
+
+abbrev pub startState : Charge → ℤ → State
+startState ch mk = record { gas = gasOf ch; mk = up mk }
+
+-- a walk past the lines given: the first refusal among them and of its start, else its run
+unfoldable pub walked : List Line → Weights → List ℕ → Charge → ℤ → List ℤ → ℕ → ℕ → ℕ → Told Trace
+walked lines w s ch mk numbers temperatures rests looks =
+    first (lines ++ startLines w ch mk (length numbers) temperatures rests looks) (run w s (startState ch mk) (stepsOf (length numbers / width) numbers))
+
+-- ---- what comes back
+-- a walk done to the end: the number of steps, the last charge and temperature; a refused step: the number of steps done, the number, and the charge and temperature before it
+pub data Course : Type 0 where
+  done : ℕ → Charge → ℤ → Course
+  stopped : ℕ → ℕ → Charge → ℤ → Course
+
+abbrev pub chargeOf : Gas → Charge
+chargeOf g = record { air = pos (g .air); carbon = pos (g .carbon); hydrogen = pos (g .hydrogen) }
+
+abbrev pub courseOf : ℕ → End → Course
+courseOf n (ended st) = done n (chargeOf (st .gas)) (pos (st .mk))
+courseOf n (cut number st) = stopped n number (chargeOf (st .gas)) (pos (st .mk))
+
+abbrev pub course : Told Trace → Told Course
+course (gives t) = gives (courseOf (length (t .outs)) (t .end))
+course (refuses n) = refuses n
+course (refusesRow n r) = refusesRow n r
+
+-- the answer as the paper has it
+abbrev pub paperWalk : WalkAnswer → Told Course
+paperWalk (Done n ch t) = gives (done n ch (t .0))
+paperWalk (Stopped n number ch t) = gives (stopped n number ch (t .0))
+paperWalk (Refused r) = refused r
+
+-- ---- the lent lists
+-- the steps done: none where the start is refused
+abbrev pub outsOf : Told Trace → List Out
+outsOf (gives t) = t .outs
+outsOf (refuses n) = []
+outsOf (refusesRow n r) = []
+
+abbrev pub temperaturesOf : List Out → List ℤ
+temperaturesOf os = map (λ (o : Out). pos (o .state .mk)) os
+
+abbrev pub restsOf : List Out → List ℤ
+restsOf os = map (λ (o : Out). o .rests) os
+
+-- eleven places a step, from eleven times its index on; unused ones of the eleven are 0
+abbrev pub looksOf : List Out → List ℕ
+looksOf [] = []
+looksOf (o ∷ os) = eleven (o .seen) ++ looksOf os
+
+-- the whole of a walk: what it tells, and the three lent lists on return
+pub record Walks (told : Told Trace) (t r : List ℤ) (l : List ℕ) (a : WalkAnswer) (t′ r′ : List ℤ) (l′ : List ℕ) : Type 0 where
+  pub answer : paperWalk a ≡ course told
+  pub temperatures : t′ ≡ laid (temperaturesOf (outsOf told)) t
+  pub rests : r′ ≡ laid (restsOf (outsOf told)) r
+  pub looks : l′ ≡ laid (looksOf (outsOf told)) l

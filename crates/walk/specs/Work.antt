@@ -1,0 +1,130 @@
+-- What the work of a walk past its start keeps and shows: the state with the two heats that the next step needs, one step, and what it asks. The functions of
+-- src/course.rt and src/stepping.rt cite these; Step.antt and Walk.antt are what they mean.
+use mathlib.Core.Bool.{Bool, true, _||_}
+use mathlib.Core.List.{List, []}
+use mathlib.Core.Path.{_≡_}
+use Prim.Native.Nat.{ℕ, _+_, _*_, _≤_}
+use lib.ListN.{getD}
+use lib.IntN.{ℤ, pos, _+ℤ_, _-ℤ_}
+use lib.Signed.{ltZ}
+use Rattle.signed.specs.Zed.{up, dn, inZ, outside}
+use Rattle.air.specs.Refusals.{Told, gives, refuses, refusesRow}
+use Rattle.air.specs.declared.Millikelvin.{Millikelvin}
+use Rattle.air.specs.declared.Refusal.{Refusal}
+use Rattle.air.specs.declared.Refusal.the-variants.{Plain, AtRow}
+use Rattle.air.specs.Halving.{eleven}
+use Rattle.gas.specs.declared.Heat.{Heat}
+use Rattle.gas.specs.declared.Gas.{Gas}
+use Rattle.gas.specs.Burning.{document01, Burns}
+use Rattle.gas.specs.Heat.{gasHeat}
+use Rattle.walk.specs.declared.stepping.Standing.{Standing}
+use Rattle.walk.specs.declared.stepping.Asking.{Asking}
+use Rattle.walk.specs.declared.stepping.Ask.{Ask}
+use Rattle.walk.specs.declared.stepping.Ask.the-variants.{For, Refused as AskRefused}
+use Rattle.walk.specs.declared.stepping.Atoms.{Atoms}
+use Rattle.walk.specs.declared.stepping.Atoms.the-variants.{Are, TooMany}
+use Rattle.walk.specs.declared.stepping.Grown.{Grown}
+use Rattle.walk.specs.declared.stepping.Grown.the-variants.{To, Beyond}
+use Rattle.walk.specs.declared.stepping.Stepped.{Stepped}
+use Rattle.walk.specs.declared.stepping.Stepped.the-variants.{Done, Refused}
+use Rattle.walk.specs.Lists.{laid}
+use Rattle.walk.specs.declared.Step.{Step}
+use Rattle.walk.specs.Step.{State, Asked, Out}
+
+-- where the walk stands
+abbrev pub stateOf : Standing → State
+stateOf st = record { gas = st .gas; mk = up (st .t .0) }
+
+-- a gas that burns, at a temperature in range, with its heat there and at 15 °C
+pub record Stands (s : List ℕ) (st : Standing) : Type 0 where
+  pub burns : Burns document01 (st .gas)
+  pub covered : inZ (pos 200000) (pos 2000000) (st .t .0) ≡ true
+  pub heat-is : st .heat .0 ≡ gasHeat document01 s (st .gas) (up (st .t .0))
+  pub fifteen-is : st .fifteen .0 ≡ gasHeat document01 s (st .gas) 288160
+
+-- a walk that begins with this gas at this temperature
+pub record Begun (s : List ℕ) (g : Gas) (t : Millikelvin) (st : Standing) : Type 0 where
+  pub state-is : stateOf st ≡ record { gas = g; mk = up (t .0) }
+  pub stands : Stands s st
+
+-- the step at an index of a list of numbers
+abbrev pub stepNo : List ℤ → ℕ → Step
+stepNo l i = record { carbon = getD l (4 * i) (pos 0); hydrogen = getD l (4 * i + 1) (pos 0); value = getD l (4 * i + 2) (pos 0); heat = getD l (4 * i + 3) (pos 0) }
+
+-- ---- what a step asks
+-- a count of atoms with more added is wrong where atoms are taken away, or leave their limit
+abbrev pub wrongCount : ℕ → ℤ → Bool
+wrongCount have more = ltZ more (pos 0) || outside (pos 0) (pos 50000) (pos have +ℤ more)
+
+abbrev pub paperAtoms : Atoms → Told ℕ
+paperAtoms (Are n) = gives n
+paperAtoms TooMany = refuses 4
+
+-- a gas with the step's atoms added, refusal 4 tested
+abbrev pub paperGrown : Grown → Told Gas
+paperGrown (To g) = gives g
+paperGrown Beyond = refuses 4
+
+-- two heats and what a step brings, so small that their sum stays inside 64 bits
+pub record InReach (heat fifteen brought new : ℤ) : Type 0 where
+  pub heat-most : up heat ≤ 1068080000000000000
+  pub heat-least : dn heat ≤ 400000000000000000
+  pub fifteen-most : up fifteen ≤ 1068080000000000000
+  pub fifteen-least : dn fifteen ≤ 400000000000000000
+  pub brought-most : up brought ≤ 4254750000000000000
+  pub brought-least : dn brought ≤ 1000000000000000000
+  pub new-most : up new ≤ 1068080000000000000
+  pub new-least : dn new ≤ 400000000000000000
+
+abbrev pub paperAsk : Ask → Told Asked
+paperAsk (For a) = gives (record { gas = a .gas; target = a .target .0 })
+paperAsk (AskRefused n) = refuses n
+
+-- a new gas that burns, with its heat at 15 °C
+pub data AsksOf (s : List ℕ) : Ask → Type 0 where
+  burning : {a : Asking} → Burns document01 (a .gas) → a .fifteen .0 ≡ gasHeat document01 s (a .gas) 288160 → AsksOf s (For a)
+  none : {n : ℕ} → AsksOf s (AskRefused n)
+
+pub record Asks (told : Told Asked) (s : List ℕ) (r : Ask) : Type 0 where
+  pub asked-is : paperAsk r ≡ told
+  pub ready : AsksOf s r
+
+-- ---- a step
+-- the number of a refusal
+abbrev pub numberOf : Refusal → ℕ
+numberOf (Plain number) = number
+numberOf (AtRow number row) = number
+
+-- the state that follows from what was asked and what was found: the heat there is the target less the rest
+abbrev pub standing : Asking → Millikelvin → Heat → Standing
+standing a t rest = record { gas = a .gas; t = t; heat = record { 0 = a .target .0 -ℤ rest .0 }; fifteen = a .fifteen }
+
+-- the state after it and the rest: what it tells beside its looks
+pub record Shown : Type 0 where
+  pub state : State
+  pub rests : ℤ
+
+abbrev pub paperStep : Stepped → Told Shown
+paperStep (Done st rest) = gives (record { state = stateOf st; rests = rest .0 })
+paperStep (Refused n) = refuses n
+
+abbrev pub shown : Told Out → Told Shown
+shown (gives o) = gives (record { state = o .state; rests = o .rests })
+shown (refuses n) = refuses n
+shown (refusesRow n r) = refuses n
+
+-- its eleven places of looks; a refused step writes none
+abbrev pub elevenOf : Told Out → List ℕ
+elevenOf (gives o) = eleven (o .seen)
+elevenOf (refuses n) = []
+elevenOf (refusesRow n r) = []
+
+-- the state after a step that is done is ready for the next
+pub data StandsAfter (s : List ℕ) : Stepped → Type 0 where
+  ready : {st : Standing} {rest : Heat} → Stands s st → StandsAfter s (Done st rest)
+  none : {n : ℕ} → StandsAfter s (Refused n)
+
+pub record StepGives (j : Told Out) (s : List ℕ) (before : List ℕ) (r : Stepped) (after : List ℕ) : Type 0 where
+  pub told : paperStep r ≡ shown j
+  pub looks : after ≡ laid (elevenOf j) before
+  pub stands : StandsAfter s r

@@ -1,0 +1,75 @@
+// The inner door of walk: a walk over a sheet that was judged before, for a program that keeps one sheet for many requests.
+use crate::WalkAnswer;
+use crate::course;
+use air::Millikelvin;
+use air::Refusal;
+use gas::Charge;
+use gas::inner::Admitted;
+ghost use mathlib.Core.Path.{_≡_};
+ghost use mathlib.Core.List.{[]};
+ghost use Prim.Native.Nat.{_≤_};
+ghost use lib.ListN.{length};
+ghost use Rattle.rows.specs.Rows.{rowsH};
+ghost use Rattle.sheet.specs.Sheet.{Accepted};
+ghost use Rattle.gas.specs.Burning.{document01};
+ghost use Rattle.walk.specs.Walk.{wrongSteps, shortLists, walked, Walks};
+
+// Whether a list of steps is no multiple of four numbers, or over 256.
+fn wrong_steps(numbers: usize) -> bool
+    ensures { λ r. ⌜ r ≡ wrongSteps numbers ⌝ }
+{
+    if numbers % 4 != 0 {
+        return true;
+    }
+    numbers > 256
+}
+
+// Whether a lent list is too short for n steps.
+fn short_lists(n: usize, temperatures: usize, rests: usize, looks: usize) -> bool
+    requires { ⌜ n ≤ 64 ⌝ }
+    ensures { λ r. ⌜ r ≡ shortLists n temperatures rests looks ⌝ }
+{
+    if temperatures < n {
+        return true;
+    }
+    if rests < n {
+        return true;
+    }
+    looks < 11 * n
+}
+
+// A walk over an accepted sheet: refusals 13, 10, 4, 5, 6, then the steps.
+pub fn walk_judged(
+    charge: Charge,
+    t: Millikelvin,
+    steps: &[i64],
+    temperatures: &mut [i64],
+    rests: &mut [i64],
+    looks: &mut [u32],
+    sheet: &[u32],
+    air: &[u32; 1801],
+) -> WalkAnswer
+    requires { ⌜ Accepted (now sheet) × (now air ≡ rowsH) ⌝ }
+    ensures { λ r. ⌜ Walks (walked [] document01 (now (sheet .entry)) charge (t .0) (now (steps .entry)) (length (now (temperatures .entry))) (length (now (rests .entry))) (length (now (looks .entry)))) (now (temperatures .entry)) (now (rests .entry)) (now (looks .entry)) r (now (temperatures .exit)) (now (rests .exit)) (now (looks .exit)) ⌝ }
+{
+    if wrong_steps(steps.len()) {
+        return WalkAnswer::Refused(Refusal::Plain(crate::STEPS));
+    }
+    let n = steps.len() / 4;
+    if short_lists(n, temperatures.len(), rests.len(), looks.len()) {
+        return WalkAnswer::Refused(Refusal::Plain(air::LIST_SHORT));
+    }
+    match gas::inner::admit_at(charge, t) {
+        Admitted::Refused(r) => WalkAnswer::Refused(r),
+        Admitted::Burning(gas) => course::go(
+            course::begin(gas, t, sheet, air),
+            n,
+            steps,
+            temperatures,
+            rests,
+            looks,
+            sheet,
+            air,
+        ),
+    }
+}

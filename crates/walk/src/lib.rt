@@ -1,0 +1,63 @@
+// The walk (document 01, "The walk"): up to 64 steps of fuel and heat from a starting charge, temperature and sheet, each step's temperature, rest and looks in lent
+// lists. The promise fixes what comes back and every place of the three lists for any input: what the answer tells is the first refusal of the start, else the run
+// over the steps up to the first that is refused (specs/Walk.antt, specs/Step.antt). Demand 3 is a theorem about every outcome that meets it (specs/Demand3.antt).
+mod course;
+pub mod inner;
+mod stepping;
+
+use air::Millikelvin;
+use air::Refusal;
+use gas::Charge;
+use sheet::SheetAnswer;
+ghost use lib.ListN.{length};
+ghost use Rattle.sheet.specs.Answers.{sheetLines};
+ghost use Rattle.gas.specs.Burning.{document01};
+ghost use Rattle.walk.specs.Walk.{walked, Walks};
+
+// A step: carbon added, hydrogen added, calorific value in hundredths of C.H.U./lb, plain heat q.
+pub struct Step {
+    pub carbon: i64,
+    pub hydrogen: i64,
+    pub value: i64,
+    pub heat: i64,
+}
+
+// A walk done to its end: the number of steps, the last charge and temperature. One that a step stopped: the number of steps done, the refusal's number, the charge
+// and temperature before that step. Or one that was refused at its start.
+pub enum WalkAnswer {
+    Done(u32, Charge, Millikelvin),
+    Stopped(u32, u32, Charge, Millikelvin),
+    Refused(Refusal),
+}
+
+// steps list not a multiple of four long, or over 256
+pub const STEPS: u32 = 13;
+
+// The walk of a charge from a temperature over the steps, four numbers each. Step i writes place i of the temperatures and rests, and the eleven places of looks from
+// 11 i on; a refused step and a refused start write nothing.
+pub fn walk(
+    charge: Charge,
+    t: Millikelvin,
+    sheet: &[u32],
+    steps: &[i64],
+    temperatures: &mut [i64],
+    rests: &mut [i64],
+    looks: &mut [u32],
+) -> WalkAnswer
+    ensures { λ r. ⌜ Walks (walked (sheetLines (now (sheet .entry))) document01 (now (sheet .entry)) charge (t .0) (now (steps .entry)) (length (now (temperatures .entry))) (length (now (rests .entry))) (length (now (looks .entry)))) (now (temperatures .entry)) (now (rests .entry)) (now (looks .entry)) r (now (temperatures .exit)) (now (rests .exit)) (now (looks .exit)) ⌝ }
+{
+    let air = rows::columns::heat_column();
+    match sheet::inner::judge(sheet, &air) {
+        SheetAnswer::Refused(r) => WalkAnswer::Refused(r),
+        SheetAnswer::Good => inner::walk_judged(
+            charge,
+            t,
+            steps,
+            temperatures,
+            rests,
+            looks,
+            sheet,
+            &air,
+        ),
+    }
+}

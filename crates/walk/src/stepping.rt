@@ -1,0 +1,205 @@
+// One step of a walk, in two halves as document 01 has them: what it asks (4, 7, 5), and the search for the temperature (8 or 9), which writes the lent part of
+// the looks. Every number of a step is tested before it is worked with, and nothing is written before the step is sure.
+use crate::Step;
+use air::Millikelvin;
+use air::Refusal;
+use gas::Gas;
+use gas::Heat;
+use gas::TemperatureAnswer;
+ghost use mathlib.Core.Path.{_≡_};
+ghost use mathlib.Core.Bool.{false};
+ghost use mathlib.Core.List.{[], _∷_};
+ghost use Prim.Native.Nat.{_+_, _≤_};
+ghost use lib.IntN.{_+ℤ_, _-ℤ_};
+ghost use lib.ListN.{length};
+ghost use mir.Syntax.{w64};
+ghost use mir.Val.{SFits};
+ghost use Rattle.rows.specs.Rows.{rowsH};
+ghost use Rattle.signed.specs.Zed.{up};
+ghost use Rattle.air.specs.Refusals.{first, _when_};
+ghost use Rattle.sheet.specs.Sheet.{Accepted};
+ghost use Rattle.gas.specs.Burning.{document01, Limits};
+ghost use Rattle.walk.specs.Step.{newGas, stepHeat, wrongAtoms, wrongHeat, asked, held, judge};
+ghost use Rattle.walk.specs.Work.{stateOf, Stands, numberOf, wrongCount, paperAtoms, paperGrown, InReach, Asks, standing, StepGives};
+
+// Where a walk stands: its gas and temperature, with the gas heat there and at 15 °C, so that no step works either out again.
+pub(crate) struct Standing {
+    pub gas: Gas,
+    pub t: Millikelvin,
+    pub heat: Heat,
+    pub fifteen: Heat,
+}
+
+// What a step asks: the temperature of the new gas at which its heat is the target; with the new gas's heat at 15 °C.
+pub(crate) struct Asking {
+    pub gas: Gas,
+    pub target: Heat,
+    pub fifteen: Heat,
+}
+
+// What a step asks, or the number of its refusal.
+pub(crate) enum Ask {
+    For(Asking),
+    Refused(u32),
+}
+
+// The state after a step and its rest, or the number of its refusal.
+pub(crate) enum Stepped {
+    Done(Standing, Heat),
+    Refused(u32),
+}
+
+// A count of atoms, or none where atoms are taken away or leave their limit.
+pub(crate) enum Atoms {
+    Are(u64),
+    TooMany,
+}
+
+// A gas with atoms added, or none where a count leaves its limit.
+pub(crate) enum Grown {
+    To(Gas),
+    Beyond,
+}
+
+// The number of a refusal.
+fn number_of(r: Refusal) -> u32
+    ensures { λ n. ⌜ n ≡ numberOf r ⌝ }
+{
+    match r {
+        Refusal::Plain(number) => number,
+        Refusal::AtRow(number, _) => number,
+    }
+}
+
+// calorific value or q outside range
+const HEAT: u32 = 7;
+
+// A count of atoms with more added.
+fn add(have: u64, more: i64) -> Atoms
+    requires { ⌜ have ≤ 50000 ⌝ }
+    ensures { λ r. ⌜ paperAtoms r ≡ first (4 when wrongCount have more ∷ []) (have + up more) ⌝ }
+{
+    if !signed::inside(more, 0, 50000) {
+        return Atoms::TooMany;
+    }
+    let sum = have + signed::to_u64(more);
+    if sum > 50000 {
+        return Atoms::TooMany;
+    }
+    Atoms::Are(sum)
+}
+
+// The gas with a step's atoms added.
+fn grow(gas: Gas, p: Step) -> Grown
+    requires { ⌜ Limits document01 gas ⌝ }
+    ensures { λ r. ⌜ paperGrown r ≡ first (4 when wrongAtoms document01 gas p ∷ []) (newGas gas p) ⌝ }
+{
+    let Atoms::Are(carbon) = add(gas.carbon, p.carbon) else {
+        return Grown::Beyond;
+    };
+    let Atoms::Are(hydrogen) = add(gas.hydrogen, p.hydrogen) else {
+        return Grown::Beyond;
+    };
+    Grown::To(Gas {
+        air: gas.air,
+        carbon,
+        hydrogen,
+    })
+}
+
+// Whether a step's calorific value or plain heat is outside its range.
+fn wrong_heat(p: Step) -> bool
+    ensures { λ r. ⌜ r ≡ wrongHeat p ⌝ }
+{
+    if !signed::inside(p.value, 0, 5000000) {
+        return true;
+    }
+    !signed::inside(p.heat, -1000000000000000000, 1000000000000000000)
+}
+
+// The heat that a step brings: its fuel's mass × 1000 × the calorific value, and q.
+fn step_heat(gas: Gas, p: Step) -> Heat
+    requires { ⌜ Limits document01 gas × (wrongAtoms document01 gas p ≡ false) × (wrongHeat p ≡ false) ⌝ }
+    ensures { λ r. ⌜ r .0 ≡ stepHeat document01 p ⌝ }
+{
+    let fuel = Gas {
+        air: gas.air,
+        carbon: signed::to_u64(p.carbon),
+        hydrogen: signed::to_u64(p.hydrogen),
+    };
+    let burn = signed::of_u64(gas::inner::fuel_mass(fuel) * 1000) * p.value;
+    Heat(burn + p.heat)
+}
+
+// What is held above 15 °C and what the step brings, as a heat of the new gas.
+fn target(heat: Heat, fifteen: Heat, brought: Heat, new: Heat) -> Heat
+    requires { ⌜ InReach (heat .0) (fifteen .0) (brought .0) (new .0) ⌝ }
+    ensures { λ r. ⌜ r .0 ≡ heat .0 -ℤ fifteen .0 +ℤ brought .0 +ℤ new .0 ⌝ }
+{
+    Heat(heat.0 - fifteen.0 + brought.0 + new.0)
+}
+
+// The first half of a step: what it asks, refusals 4, 7 and 5 tested in this order.
+fn asked_of(st: Standing, p: Step, sheet: &[u32], air: &[u32; 1801]) -> Ask
+    requires { ⌜ Stands (now sheet) st × Accepted (now sheet) × (now air ≡ rowsH) ⌝ }
+    ensures { λ r. ⌜ Asks (asked document01 (now (sheet .entry)) (held document01 (now (sheet .entry)) (stateOf st)) (st .gas) p) (now (sheet .entry)) r ⌝ }
+{
+    let old = st.gas;
+    match grow(old, p) {
+        Grown::Beyond => Ask::Refused(gas::LIMIT),
+        Grown::To(gas) => {
+            if wrong_heat(p) {
+                return Ask::Refused(HEAT);
+            }
+            if !gas::inner::lean(gas) {
+                return Ask::Refused(gas::RICH);
+            }
+            let fifteen = gas::inner::heat_at(gas, Millikelvin(288160), sheet, air);
+            let target = target(st.heat, st.fifteen, step_heat(old, p), fifteen);
+            Ask::For(Asking {
+                gas,
+                target,
+                fifteen,
+            })
+        }
+    }
+}
+
+// The state after a step that found its temperature: the heat there is the target less the rest.
+fn stand(asked: Asking, t: Millikelvin, rest: Heat) -> Standing
+    requires { ⌜ SFits w64 (asked .target .0 -ℤ rest .0) ⌝ }
+    ensures { λ r. ⌜ r ≡ standing asked t rest ⌝ }
+{
+    let gas = asked.gas;
+    let fifteen = asked.fifteen;
+    Standing {
+        gas,
+        t,
+        heat: Heat(asked.target.0 - rest.0),
+        fifteen,
+    }
+}
+
+// One step from where the walk stands. The search writes the looks, into the first eleven places of the part that it is lent.
+pub(crate) fn step(
+    st: Standing,
+    p: Step,
+    looks: &mut [u32],
+    sheet: &[u32],
+    air: &[u32; 1801],
+) -> Stepped
+    requires { ⌜ Stands (now sheet) st × Accepted (now sheet) × (now air ≡ rowsH) × (11 ≤ length (now looks)) ⌝ }
+    ensures { λ r. ⌜ StepGives (judge document01 (now (sheet .entry)) (stateOf st) p) (now (sheet .entry)) (now (looks .entry)) r (now (looks .exit)) ⌝ }
+{
+    match asked_of(st, p, sheet, air) {
+        Ask::Refused(number) => Stepped::Refused(number),
+        Ask::For(asked) => {
+            let gas = asked.gas;
+            let target = asked.target;
+            match gas::inner::find(gas, target, looks, sheet, air) {
+                TemperatureAnswer::Refused(r) => Stepped::Refused(number_of(r)),
+                TemperatureAnswer::At(t, rest) => Stepped::Done(stand(asked, t, rest), rest),
+            }
+        }
+    }
+}
