@@ -1,76 +1,33 @@
--- The answer to each request line (docs/PROGRAM.md): `ok` and the numbers, `refused` with the number and, for 2 and 3, the row, or `error` and a few words; fields
--- parted by tabs, ended by a line feed. The numbers are those that the definitions of the layers below tell.
+-- The answer to each request line (docs/PROGRAM.md), over a sheet list and the verdict that it was given when it was read. With the verdict `Good` each request
+-- tells what the call of the layer below tells of that list, refusals 1 and 3 among them; a sheet that was refused tells its refusal to every request that needs one.
 use Prim.Native.Nat.{ℕ}
-use mathlib.Core.Bool.{cond}
-use mathlib.Core.List.{List, [], _∷_, _++_, map}
-use lib.Dec.{eqb}
-use lib.IntN.{ℤ, pos}
-use lib.ListN.{length}
-use Rattle.text.specs.Decimal.{decimal, decimalZ}
+use mathlib.Core.List.{List, [], _∷_, _++_}
 use Rattle.text.specs.declared.Whole.{Whole}
 use Rattle.text.specs.declared.Whole.the-variants.{Is, Not}
-use Rattle.fields.specs.Fields.{fieldsOf, oneOf}
-use Rattle.air.specs.declared.Refusal.{Refusal}
-use Rattle.air.specs.declared.Refusal.the-variants.{Plain, AtRow}
-use Rattle.air.specs.Refusals.{Told, gives, refuses, refusesRow}
-use Rattle.air.specs.Inverse.{Found, looks}
-use Rattle.air.specs.Answers.{heatTold, psiTold, cpTold, psiValue, psiInverseTold}
+use Rattle.fields.specs.declared.Three.{Three}
+use Rattle.fields.specs.declared.Three.the-variants.{Are as AreThree, Not as NotThree}
+use Rattle.fields.specs.Fields.{fieldsOf, oneOf, threeOf, fourOf}
+use Rattle.air.specs.Inverse.{looks}
+use Rattle.air.specs.Answers.{heatTold as airHeatTold, psiTold, cpTold, psiValue, psiInverseTold}
+use Rattle.sheet.specs.Sheet.{Accepted}
+use Rattle.sheet.specs.declared.SheetAnswer.{SheetAnswer}
+use Rattle.sheet.specs.declared.SheetAnswer.the-variants.{Good, Refused as SheetRefused}
+use Rattle.gas.specs.Burning.{document01, gasOf}
+use Rattle.gas.specs.Heat.{gasHeat}
+use Rattle.gas.specs.Answers.{burnTold, heatTold, contentTold, specificTold, temperatureTold}
 use Rattle.console.specs.declared.requests.Request.{Request}
-use Rattle.console.specs.declared.requests.Request.the-variants.{AirHeat, AirPsi, AirCp, AirTemperature, Unknown}
-use Rattle.console.specs.Requests.{requestOf}
-
--- ok
-abbrev pub okText : List ℕ
-okText = 111 ∷ 107 ∷ []
-
--- refused
-abbrev pub refusedText : List ℕ
-refusedText = 114 ∷ 101 ∷ 102 ∷ 117 ∷ 115 ∷ 101 ∷ 100 ∷ []
-
--- error, tab, no such request
-abbrev pub unknownText : List ℕ
-unknownText = 101 ∷ 114 ∷ 114 ∷ 111 ∷ 114 ∷ 9 ∷ 110 ∷ 111 ∷ 32 ∷ 115 ∷ 117 ∷ 99 ∷ 104 ∷ 32 ∷ 114 ∷ 101 ∷ 113 ∷ 117 ∷ 101 ∷ 115 ∷ 116 ∷ []
-
--- error, tab, the request takes other fields
-abbrev pub misfitText : List ℕ
-misfitText = 101 ∷ 114 ∷ 114 ∷ 111 ∷ 114 ∷ 9 ∷ 116 ∷ 104 ∷ 101 ∷ 32 ∷ 114 ∷ 101 ∷ 113 ∷ 117 ∷ 101 ∷ 115 ∷ 116 ∷ 32 ∷ 116 ∷ 97 ∷ 107 ∷ 101 ∷ 115 ∷ 32 ∷ 111 ∷ 116 ∷ 104 ∷ 101 ∷ 114 ∷ 32 ∷ 102 ∷ 105 ∷ 101 ∷ 108 ∷ 100 ∷ 115 ∷ []
-
--- numbers, a tab before each
-abbrev pub fieldsText : List ℤ → List ℕ
-fieldsText [] = []
-fieldsText (z ∷ zs) = (9 ∷ decimalZ z) ++ fieldsText zs
-
--- a refusal: its number and, where there is one, its row
-abbrev pub refusalText : Refusal → List ℕ
-refusalText (Plain number) = refusedText ++ (9 ∷ decimal number)
-refusalText (AtRow number row) = (refusedText ++ (9 ∷ decimal number)) ++ (9 ∷ decimal row)
-
--- what a call tells: its values in their text, or the refusal
-abbrev pub toldText : {A : Type 0} → (A → List ℕ) → Told A → List ℕ
-toldText values (gives a) = values a
-toldText values (refuses number) = refusalText (Plain number)
-toldText values (refusesRow number row) = refusalText (AtRow number row)
-
--- a reading of the air table
-abbrev pub readingText : Told ℕ → List ℕ
-readingText = toldText (λ n. okText ++ (9 ∷ decimal n))
-
--- the looks that eleven places hold: those before the first 0
-abbrev pub used : List ℕ → List ℕ
-used [] = []
-used (k ∷ ks) = cond (eqb k 0) [] (k ∷ used ks)
-
--- the number of looks, and the looks
-abbrev pub countedText : List ℕ → List ℕ
-countedText ks = (9 ∷ decimal (length ks)) ++ fieldsText (map pos ks)
-
--- an inverse: mK, rest, number of looks, the looks
-abbrev pub inverseText : Told Found → List ℕ → List ℕ
-inverseText told ks = toldText (λ f. ((okText ++ (9 ∷ decimalZ (f .mk))) ++ (9 ∷ decimalZ (f .left))) ++ countedText ks) told
+use Rattle.console.specs.declared.requests.Request.the-variants.{AirHeat, AirPsi, AirCp, AirTemperature, Burn, OfGas, Mark, Unknown}
+use Rattle.console.specs.declared.requests.Quantity.{Quantity}
+use Rattle.console.specs.declared.requests.Quantity.the-variants.{Heat, Content, Specific, Temperature}
+use Rattle.console.specs.declared.requests.Asked.{Asked}
+use Rattle.console.specs.declared.requests.Asked.the-variants.{Of, Refused, Misfit}
+use Rattle.console.specs.Requests.{requestOf, askedOf}
+use Rattle.console.specs.Texts.{unknownText, misfitText, refusalText, readingText, inverseText, burntText, wholeText}
+use Rattle.console.specs.Marks.{markRequest}
 
 -- air-heat mK
 abbrev pub airHeatText : Whole → List ℕ
-airHeatText (Is mk) = readingText (heatTold mk)
+airHeatText (Is mk) = readingText (airHeatTold mk)
 airHeatText Not = misfitText
 
 -- air-psi mK
@@ -88,18 +45,67 @@ abbrev pub airTemperatureText : Whole → List ℕ
 airTemperatureText (Is psi) = inverseText (psiInverseTold 11 psi) (looks psiValue psi)
 airTemperatureText Not = misfitText
 
+-- burn A c h
+abbrev pub burnText : Three → List ℕ
+burnText (AreThree air carbon hydrogen) = burntText (burnTold document01 (record { air = air; carbon = carbon; hydrogen = hydrogen }))
+burnText NotThree = misfitText
+
+-- gas-heat A c h mK
+abbrev pub gasHeatText : List ℕ → Asked → List ℕ
+gasHeatText s (Of charge mk) = wholeText (heatTold document01 charge mk s)
+gasHeatText s (Refused r) = refusalText r
+gasHeatText s Misfit = misfitText
+
+-- content A c h mK
+abbrev pub contentText : List ℕ → Asked → List ℕ
+contentText s (Of charge mk) = wholeText (contentTold document01 charge mk s)
+contentText s (Refused r) = refusalText r
+contentText s Misfit = misfitText
+
+-- specific-content A c h mK
+abbrev pub specificText : List ℕ → Asked → List ℕ
+specificText s (Of charge mk) = wholeText (specificTold document01 charge mk s)
+specificText s (Refused r) = refusalText r
+specificText s Misfit = misfitText
+
+-- temperature A c h target
+abbrev pub temperatureText : List ℕ → Asked → List ℕ
+temperatureText s (Of charge target) = inverseText (temperatureTold document01 charge target s 11) (looks (gasHeat document01 s (gasOf charge)) target)
+temperatureText s (Refused r) = refusalText r
+temperatureText s Misfit = misfitText
+
+-- what is asked of a gas
+abbrev pub quantityText : Quantity → List ℕ → Asked → List ℕ
+quantityText Heat s asked = gasHeatText s asked
+quantityText Content s asked = contentText s asked
+quantityText Specific s asked = specificText s asked
+quantityText Temperature s asked = temperatureText s asked
+
 -- the reply to a request, by its further fields
-abbrev pub replyText : Request → List (List ℕ) → List ℕ
-replyText AirHeat fs = airHeatText (oneOf fs)
-replyText AirPsi fs = airPsiText (oneOf fs)
-replyText AirCp fs = airCpText (oneOf fs)
-replyText AirTemperature fs = airTemperatureText (oneOf fs)
-replyText Unknown fs = unknownText
+abbrev pub replyText : SheetAnswer → List ℕ → Request → List (List ℕ) → List ℕ
+replyText verdict s AirHeat fs = airHeatText (oneOf fs)
+replyText verdict s AirPsi fs = airPsiText (oneOf fs)
+replyText verdict s AirCp fs = airCpText (oneOf fs)
+replyText verdict s AirTemperature fs = airTemperatureText (oneOf fs)
+replyText verdict s Burn fs = burnText (threeOf fs)
+replyText verdict s (OfGas quantity) fs = quantityText quantity s (askedOf (fourOf fs) verdict)
+replyText verdict s Mark fs = markRequest fs
+replyText verdict s Unknown fs = unknownText
 
 -- the answer to a line: the first field says what is asked
-abbrev pub answerFields : List (List ℕ) → List ℕ
-answerFields [] = unknownText
-answerFields (w ∷ fs) = replyText (requestOf w) fs
+abbrev pub answerFields : SheetAnswer → List ℕ → List (List ℕ) → List ℕ
+answerFields verdict s [] = unknownText
+answerFields verdict s (w ∷ fs) = replyText verdict s (requestOf w) fs
 
-unfoldable pub answerOf : List ℕ → List ℕ
-answerOf line = answerFields (fieldsOf line) ++ (10 ∷ [])
+unfoldable pub answerOf : SheetAnswer → List ℕ → List ℕ → List ℕ
+answerOf verdict s line = answerFields verdict s (fieldsOf line) ++ (10 ∷ [])
+
+-- what a program that holds a verdict knows: a sheet that was found good is accepted
+abbrev pub Judged : SheetAnswer → List ℕ → Type 0
+Judged Good s = Accepted s
+Judged (SheetRefused r) s = Unit {0}
+
+abbrev pub Ready : Asked → List ℕ → Type 0
+Ready (Of charge number) s = Accepted s
+Ready (Refused r) s = Unit {0}
+Ready Misfit s = Unit {0}

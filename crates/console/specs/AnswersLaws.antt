@@ -26,7 +26,14 @@ use Rattle.air.specs.declared.PsiAnswer.{PsiAnswer}
 use Rattle.air.specs.Refusals.{Told, gives, refuses, refusesRow, refused}
 use Rattle.air.specs.Answers.{PsiInverse, paperPsi, psiInverseTold, psiValue}
 use Rattle.console.specs.Requests.{sameText, requestOf}
-use Rattle.console.specs.Answers.{fieldsText, refusalText, toldText, used, inverseText, replyText, answerFields, answerOf}
+use Rattle.sheet.specs.declared.SheetAnswer.{SheetAnswer}
+use Rattle.gas.specs.declared.Charge.{Charge}
+use Rattle.gas.specs.declared.TemperatureAnswer.{TemperatureAnswer}
+use Rattle.gas.specs.Burning.{document01, gasOf}
+use Rattle.gas.specs.Heat.{gasHeat}
+use Rattle.gas.specs.Answers.{paperTemperature, temperatureTold, Temperature}
+use Rattle.console.specs.Texts.{fieldsText, refusalText, toldText, used, inverseText}
+use Rattle.console.specs.Answers.{replyText, answerFields, answerOf}
 
 -- looks before the first unused place
 module _ (l : List ℕ) (i : ℕ) (h : i < length l) where
@@ -116,11 +123,12 @@ same-is a b {r} {t} h e = go t e (sameText a b) refl
     go false e false q = refl
 
 -- a line by its first field, which ends at e
-pub answer-is : (line : List ℕ) (e : ℕ) → e ≡ 0 + spanOf (drop 0 line) → answerOf line ≡ replyText (requestOf (take (e - 0) (drop 0 line))) (fieldsFrom line (e + 1)) ++ (10 ∷ [])
+pub answer-is : (verdict : SheetAnswer) (s line : List ℕ) (e : ℕ) → e ≡ 0 + spanOf (drop 0 line)
+    → answerOf verdict s line ≡ replyText verdict s (requestOf (take (e - 0) (drop 0 line))) (fieldsFrom line (e + 1)) ++ (10 ∷ [])
 unfolding answerOf fieldsFrom
-answer-is line e q =
+answer-is verdict s line e q =
     let z : leb 0 (length line) ≡ true = le-leb 0 (length line) (omega arith) in
-    ap (λ (fs : List (List ℕ)). answerFields fs ++ (10 ∷ [])) (sym (ap (λ (t : Bool). cond t (fieldsOf (drop 0 line)) []) z) ∙ fields-at line 0 e (omega arith) q)
+    ap (λ (fs : List (List ℕ)). answerFields verdict s fs ++ (10 ∷ [])) (sym (ap (λ (t : Bool). cond t (fieldsOf (drop 0 line)) []) z) ∙ fields-at line 0 e (omega arith) q)
 
 -- a refusal in its text, whatever the values would be
 pub told-refused : {A : Type 0} (values : A → List ℕ) (r : Refusal) → toldText values (refused r) ≡ refusalText r
@@ -136,3 +144,7 @@ inverse-shown v t (refusesRow n r) = refl
 pub psi-shown : {target : ℤ} {r : PsiAnswer} {after : List ℕ} → PsiInverse target (replicate 11 0) r after
     → inverseText (paperPsi r) (used after) ≡ inverseText (psiInverseTold 11 target) (looks psiValue target)
 psi-shown {target} {r} p = rw (p .told, p .list) (inverse-shown psiValue target (psiInverseTold 11 target))
+
+pub temperature-shown : (ch : Charge) (target : ℤ) (s : List ℕ) {r : TemperatureAnswer} {after : List ℕ} → Temperature document01 ch target s (replicate 11 0) r after
+    → inverseText (paperTemperature r) (used after) ≡ inverseText (temperatureTold document01 ch target s 11) (looks (gasHeat document01 s (gasOf ch)) target)
+temperature-shown ch target s p = rw (p .told, p .list) (inverse-shown (gasHeat document01 s (gasOf ch)) target (temperatureTold document01 ch target s 11))

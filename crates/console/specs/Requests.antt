@@ -1,10 +1,17 @@
--- The words that requests begin with (docs/PROGRAM.md), and the request that each names.
+-- The words that requests begin with (docs/PROGRAM.md), the request that each names, and what four numbers and a sheet's verdict come to.
 use Prim.Native.Nat.{ℕ}
 use mathlib.Core.Bool.{Bool, true, false, _&&_, cond}
 use mathlib.Core.List.{List, [], _∷_}
 use lib.Dec.{eqb}
+use Rattle.fields.specs.declared.Four.{Four}
+use Rattle.fields.specs.declared.Four.the-variants.{Are, Not}
+use Rattle.sheet.specs.declared.SheetAnswer.{SheetAnswer}
+use Rattle.sheet.specs.declared.SheetAnswer.the-variants.{Good, Refused as SheetRefused}
 use Rattle.console.specs.declared.requests.Request.{Request}
-use Rattle.console.specs.declared.requests.Request.the-variants.{AirHeat, AirPsi, AirCp, AirTemperature, Unknown}
+use Rattle.console.specs.declared.requests.Request.the-variants.{AirHeat, AirPsi, AirCp, AirTemperature, Burn, OfGas, Mark, Unknown}
+use Rattle.console.specs.declared.requests.Quantity.the-variants.{Heat, Content, Specific, Temperature}
+use Rattle.console.specs.declared.requests.Asked.{Asked}
+use Rattle.console.specs.declared.requests.Asked.the-variants.{Of, Refused, Misfit}
 
 -- two texts have the same bytes
 abbrev pub sameText : List ℕ → List ℕ → Bool
@@ -29,11 +36,55 @@ airCpWord = 97 ∷ 105 ∷ 114 ∷ 45 ∷ 99 ∷ 112 ∷ []
 abbrev pub airTemperatureWord : List ℕ
 airTemperatureWord = 97 ∷ 105 ∷ 114 ∷ 45 ∷ 116 ∷ 101 ∷ 109 ∷ 112 ∷ 101 ∷ 114 ∷ 97 ∷ 116 ∷ 117 ∷ 114 ∷ 101 ∷ []
 
--- the request of a word
+-- burn
+abbrev pub burnWord : List ℕ
+burnWord = 98 ∷ 117 ∷ 114 ∷ 110 ∷ []
+
+-- gas-heat
+abbrev pub gasHeatWord : List ℕ
+gasHeatWord = 103 ∷ 97 ∷ 115 ∷ 45 ∷ 104 ∷ 101 ∷ 97 ∷ 116 ∷ []
+
+-- content
+abbrev pub contentWord : List ℕ
+contentWord = 99 ∷ 111 ∷ 110 ∷ 116 ∷ 101 ∷ 110 ∷ 116 ∷ []
+
+-- specific-content
+abbrev pub specificContentWord : List ℕ
+specificContentWord = 115 ∷ 112 ∷ 101 ∷ 99 ∷ 105 ∷ 102 ∷ 105 ∷ 99 ∷ 45 ∷ 99 ∷ 111 ∷ 110 ∷ 116 ∷ 101 ∷ 110 ∷ 116 ∷ []
+
+-- temperature
+abbrev pub temperatureWord : List ℕ
+temperatureWord = 116 ∷ 101 ∷ 109 ∷ 112 ∷ 101 ∷ 114 ∷ 97 ∷ 116 ∷ 117 ∷ 114 ∷ 101 ∷ []
+
+-- mark
+abbrev pub markWord : List ℕ
+markWord = 109 ∷ 97 ∷ 114 ∷ 107 ∷ []
+
+-- the request of a word: on air, on a gas, on a page
+unfoldable pub otherRequest : List ℕ → Request
+otherRequest w =
+    cond (sameText w markWord) Mark
+    Unknown
+
+unfoldable pub gasRequest : List ℕ → Request
+gasRequest w =
+    cond (sameText w burnWord) Burn
+    (cond (sameText w gasHeatWord) (OfGas Heat)
+    (cond (sameText w contentWord) (OfGas Content)
+    (cond (sameText w specificContentWord) (OfGas Specific)
+    (cond (sameText w temperatureWord) (OfGas Temperature)
+    (otherRequest w)))))
+
 unfoldable pub requestOf : List ℕ → Request
 requestOf w =
     cond (sameText w airHeatWord) AirHeat
     (cond (sameText w airPsiWord) AirPsi
     (cond (sameText w airCpWord) AirCp
     (cond (sameText w airTemperatureWord) AirTemperature
-    Unknown)))
+    (gasRequest w))))
+
+-- four numbers are a charge and a number to be asked of the sheet; a sheet that was refused when it was read tells its refusal instead
+abbrev pub askedOf : Four → SheetAnswer → Asked
+askedOf (Are air carbon hydrogen number) Good = Of (record { air = air; carbon = carbon; hydrogen = hydrogen }) number
+askedOf (Are air carbon hydrogen number) (SheetRefused r) = Refused r
+askedOf Not verdict = Misfit

@@ -1,7 +1,15 @@
 // The inner doors of console, for the programs beside it: the parts of an answer, put one after the other.
+use crate::replies;
+use crate::requests;
 use air::PsiAnswer;
 use air::Reading;
 use air::Refusal;
+use gas::HeatAnswer;
+use gas::Products;
+use gas::SpecificAnswer;
+use gas::TemperatureAnswer;
+use marking::MarkAnswer;
+use sheet::SheetAnswer;
 ghost use Prim.Native.Nat.{_≤_};
 ghost use mathlib.Core.Path.{_≡_};
 ghost use mathlib.Core.List.{_∷_, map};
@@ -10,7 +18,10 @@ ghost use lib.IntN.{pos};
 ghost use Rattle.text.specs.Decimal.{decimal, decimalZ};
 ghost use Rattle.text.specs.Put.{Put};
 ghost use Rattle.air.specs.Answers.{paperReading, paperPsi};
-ghost use Rattle.console.specs.Answers.{refusalText, fieldsText, used, countedText, readingText, inverseText};
+ghost use Rattle.gas.specs.Answers.{paperHeat, paperSpecific, paperTemperature};
+ghost use Rattle.marking.specs.Marking.{paper};
+ghost use Rattle.console.specs.Texts.{refusalText, fieldsText, used, countedText, readingText, inverseText, productsText, wholeText, markText};
+ghost use Rattle.console.specs.Answers.{Judged, answerOf};
 
 // A tab and a number.
 pub fn put_number(n: u64, out: &mut [u8], at: usize) -> usize
@@ -105,4 +116,85 @@ pub fn put_psi(answer: PsiAnswer, looks: &[u32], out: &mut [u8], at: usize) -> u
         }
         PsiAnswer::Refused(refusal) => put_refusal(refusal, out, at),
     }
+}
+
+// `ok` and the products of a charge.
+pub fn put_products(products: Products, out: &mut [u8], at: usize) -> usize
+    ensures { λ r. ⌜ Put (productsText products) (now (out .entry)) at r (now (out .exit)) ⌝ }
+{
+    let ok = text::put_text(b"ok", out, at);
+    let co2 = put_number(products.co2, out, ok);
+    let h2o = put_number(products.h2o, out, co2);
+    let o2 = put_number(products.o2, out, h2o);
+    let n2 = put_number(products.n2, out, o2);
+    put_number(products.ar, out, n2)
+}
+
+// `ok` and a gas heat or a content, or its refusal.
+pub fn put_heat(answer: HeatAnswer, out: &mut [u8], at: usize) -> usize
+    ensures { λ r. ⌜ Put (wholeText (paperHeat answer)) (now (out .entry)) at r (now (out .exit)) ⌝ }
+{
+    match answer {
+        HeatAnswer::Is(heat) => {
+            let next = text::put_text(b"ok", out, at);
+            put_signed(heat.0, out, next)
+        }
+        HeatAnswer::Refused(refusal) => put_refusal(refusal, out, at),
+    }
+}
+
+// `ok` and a specific content, or its refusal.
+pub fn put_specific(answer: SpecificAnswer, out: &mut [u8], at: usize) -> usize
+    ensures { λ r. ⌜ Put (wholeText (paperSpecific answer)) (now (out .entry)) at r (now (out .exit)) ⌝ }
+{
+    match answer {
+        SpecificAnswer::Is(n) => {
+            let next = text::put_text(b"ok", out, at);
+            put_signed(n, out, next)
+        }
+        SpecificAnswer::Refused(refusal) => put_refusal(refusal, out, at),
+    }
+}
+
+// `ok`, the mK of a heat, its rest and the looks that the places hold; or the refusal.
+pub fn put_temperature(answer: TemperatureAnswer, looks: &[u32], out: &mut [u8], at: usize) -> usize
+    ensures { λ r. ⌜ Put (inverseText (paperTemperature answer) (used (now (looks .entry)))) (now (out .entry)) at r (now (out .exit)) ⌝ }
+{
+    match answer {
+        TemperatureAnswer::At(t, rest) => {
+            let next = text::put_text(b"ok", out, at);
+            let after = put_signed(t.0, out, next);
+            let last = put_signed(rest.0, out, after);
+            put_looks(looks, out, last)
+        }
+        TemperatureAnswer::Refused(refusal) => put_refusal(refusal, out, at),
+    }
+}
+
+// `counts` or `misses`, or the refusal.
+pub fn put_mark(answer: MarkAnswer, out: &mut [u8], at: usize) -> usize
+    ensures { λ r. ⌜ Put (markText (paper answer)) (now (out .entry)) at r (now (out .exit)) ⌝ }
+{
+    match answer {
+        MarkAnswer::Counts => text::put_text(b"counts", out, at),
+        MarkAnswer::Misses => text::put_text(b"misses", out, at),
+        MarkAnswer::Refused(refusal) => put_refusal(refusal, out, at),
+    }
+}
+
+// The answer to a request line, its line feed with it, over a sheet that was judged when it was read.
+pub fn answer_judged(
+    line: &[u8],
+    verdict: SheetAnswer,
+    sheet: &[u32],
+    out: &mut [u8],
+    at: usize,
+) -> usize
+    requires { ⌜ Judged verdict (now sheet) ⌝ }
+    ensures { λ r. ⌜ Put (answerOf verdict (now (sheet .entry)) (now (line .entry))) (now (out .entry)) at r (now (out .exit)) ⌝ }
+{
+    let end = fields::field_end(line, 0);
+    let request = requests::request_of(&line[0..end]);
+    let next = replies::reply(request, line, end + 1, verdict, sheet, out, at);
+    text::put_byte(10, out, next)
 }

@@ -1,11 +1,24 @@
 // The reply to each request: its numbers read, the call of the layer below, its answer put. Each function is one definition of specs/Answers.antt.
 use crate::inner;
+use crate::judged;
+use crate::marks;
+use crate::requests;
+use crate::requests::Asked;
+use crate::requests::Quantity;
 use crate::requests::Request;
 use air::Millikelvin;
+use fields::Three;
+use gas::BurnAnswer;
+use gas::Charge;
+use gas::Heat;
+use sheet::SheetAnswer;
 use text::Whole;
 ghost use Rattle.text.specs.Put.{Put};
-ghost use Rattle.fields.specs.Fields.{fieldsFrom, oneOf};
-ghost use Rattle.console.specs.Answers.{unknownText, misfitText, airHeatText, airPsiText, airCpText, airTemperatureText, replyText};
+ghost use Rattle.sheet.specs.Sheet.{Accepted};
+ghost use Rattle.fields.specs.Fields.{fieldsFrom};
+ghost use Rattle.gas.specs.Answers.{paperBurn};
+ghost use Rattle.console.specs.Texts.{unknownText, misfitText, burntText};
+ghost use Rattle.console.specs.Answers.{Judged, Ready, airHeatText, airPsiText, airCpText, airTemperatureText, burnText, gasHeatText, contentText, specificText, temperatureText, quantityText, replyText};
 
 // No request begins with this word.
 fn put_unknown(out: &mut [u8], at: usize) -> usize
@@ -15,7 +28,7 @@ fn put_unknown(out: &mut [u8], at: usize) -> usize
 }
 
 // The request takes other fields.
-fn put_misfit(out: &mut [u8], at: usize) -> usize
+pub fn put_misfit(out: &mut [u8], at: usize) -> usize
     ensures { λ r. ⌜ Put misfitText (now (out .entry)) at r (now (out .exit)) ⌝ }
 {
     text::put_text(b"error\tthe request takes other fields", out, at)
@@ -51,8 +64,8 @@ fn reply_air_cp(numbers: Whole, out: &mut [u8], at: usize) -> usize
     }
 }
 
-// The temperature of a psi, asked with a list of eleven places.
-fn put_temperature(psi: i64, out: &mut [u8], at: usize) -> usize
+// The temperature of a psi, asked with eleven places for looks.
+fn ask_psi(psi: i64, out: &mut [u8], at: usize) -> usize
     ensures { λ r. ⌜ Put (airTemperatureText (Whole.Is psi)) (now (out .entry)) at r (now (out .exit)) ⌝ }
 {
     let mut looks = [0u32; 11];
@@ -65,20 +78,144 @@ fn reply_air_temperature(numbers: Whole, out: &mut [u8], at: usize) -> usize
     ensures { λ r. ⌜ Put (airTemperatureText numbers) (now (out .entry)) at r (now (out .exit)) ⌝ }
 {
     match numbers {
-        Whole::Is(psi) => put_temperature(psi, out, at),
+        Whole::Is(psi) => ask_psi(psi, out, at),
         Whole::Not => put_misfit(out, at),
     }
 }
 
+// What a charge burns to, or its refusal.
+fn put_burnt(answer: BurnAnswer, out: &mut [u8], at: usize) -> usize
+    ensures { λ r. ⌜ Put (burntText (paperBurn answer)) (now (out .entry)) at r (now (out .exit)) ⌝ }
+{
+    match answer {
+        BurnAnswer::Is(products) => inner::put_products(products, out, at),
+        BurnAnswer::Refused(refusal) => inner::put_refusal(refusal, out, at),
+    }
+}
+
+// burn A c h
+fn reply_burn(numbers: Three, out: &mut [u8], at: usize) -> usize
+    ensures { λ r. ⌜ Put (burnText numbers) (now (out .entry)) at r (now (out .exit)) ⌝ }
+{
+    match numbers {
+        Three::Are(air, carbon, hydrogen) => put_burnt(gas::burn(air, carbon, hydrogen), out, at),
+        Three::Not => put_misfit(out, at),
+    }
+}
+
+// gas-heat A c h mK
+fn reply_gas_heat(asked: Asked, sheet: &[u32], out: &mut [u8], at: usize) -> usize
+    requires { ⌜ Ready asked (now sheet) ⌝ }
+    ensures { λ r. ⌜ Put (gasHeatText (now (sheet .entry)) asked) (now (out .entry)) at r (now (out .exit)) ⌝ }
+{
+    match asked {
+        Asked::Of(charge, mk) => inner::put_heat(
+            judged::gas_heat(charge, Millikelvin(mk), sheet),
+            out,
+            at,
+        ),
+        Asked::Refused(refusal) => inner::put_refusal(refusal, out, at),
+        Asked::Misfit => put_misfit(out, at),
+    }
+}
+
+// content A c h mK
+fn reply_content(asked: Asked, sheet: &[u32], out: &mut [u8], at: usize) -> usize
+    requires { ⌜ Ready asked (now sheet) ⌝ }
+    ensures { λ r. ⌜ Put (contentText (now (sheet .entry)) asked) (now (out .entry)) at r (now (out .exit)) ⌝ }
+{
+    match asked {
+        Asked::Of(charge, mk) => inner::put_heat(
+            judged::content(charge, Millikelvin(mk), sheet),
+            out,
+            at,
+        ),
+        Asked::Refused(refusal) => inner::put_refusal(refusal, out, at),
+        Asked::Misfit => put_misfit(out, at),
+    }
+}
+
+// specific-content A c h mK
+fn reply_specific(asked: Asked, sheet: &[u32], out: &mut [u8], at: usize) -> usize
+    requires { ⌜ Ready asked (now sheet) ⌝ }
+    ensures { λ r. ⌜ Put (specificText (now (sheet .entry)) asked) (now (out .entry)) at r (now (out .exit)) ⌝ }
+{
+    match asked {
+        Asked::Of(charge, mk) => inner::put_specific(
+            judged::specific_content(charge, Millikelvin(mk), sheet),
+            out,
+            at,
+        ),
+        Asked::Refused(refusal) => inner::put_refusal(refusal, out, at),
+        Asked::Misfit => put_misfit(out, at),
+    }
+}
+
+// The temperature of a gas heat, asked with eleven places for looks.
+fn ask_temperature(charge: Charge, target: i64, sheet: &[u32], out: &mut [u8], at: usize) -> usize
+    requires { ⌜ Accepted (now sheet) ⌝ }
+    ensures { λ r. ⌜ Put (temperatureText (now (sheet .entry)) (Asked.Of charge target)) (now (out .entry)) at r (now (out .exit)) ⌝ }
+{
+    let mut looks = [0u32; 11];
+    let answer = judged::temperature(charge, Heat(target), sheet, &mut looks);
+    inner::put_temperature(answer, &looks, out, at)
+}
+
+// temperature A c h target
+fn reply_temperature(asked: Asked, sheet: &[u32], out: &mut [u8], at: usize) -> usize
+    requires { ⌜ Ready asked (now sheet) ⌝ }
+    ensures { λ r. ⌜ Put (temperatureText (now (sheet .entry)) asked) (now (out .entry)) at r (now (out .exit)) ⌝ }
+{
+    match asked {
+        Asked::Of(charge, target) => ask_temperature(charge, target, sheet, out, at),
+        Asked::Refused(refusal) => inner::put_refusal(refusal, out, at),
+        Asked::Misfit => put_misfit(out, at),
+    }
+}
+
+// What is asked of a gas.
+fn reply_quantity(
+    quantity: Quantity,
+    asked: Asked,
+    sheet: &[u32],
+    out: &mut [u8],
+    at: usize,
+) -> usize
+    requires { ⌜ Ready asked (now sheet) ⌝ }
+    ensures { λ r. ⌜ Put (quantityText quantity (now (sheet .entry)) asked) (now (out .entry)) at r (now (out .exit)) ⌝ }
+{
+    match quantity {
+        Quantity::Heat => reply_gas_heat(asked, sheet, out, at),
+        Quantity::Content => reply_content(asked, sheet, out, at),
+        Quantity::Specific => reply_specific(asked, sheet, out, at),
+        Quantity::Temperature => reply_temperature(asked, sheet, out, at),
+    }
+}
+
 // The reply to a request with the fields from `from` on.
-pub(crate) fn reply(request: Request, line: &[u8], from: usize, out: &mut [u8], at: usize) -> usize
-    ensures { λ r. ⌜ Put (replyText request (fieldsFrom (now (line .entry)) from)) (now (out .entry)) at r (now (out .exit)) ⌝ }
+pub fn reply(
+    request: Request,
+    line: &[u8],
+    from: usize,
+    verdict: SheetAnswer,
+    sheet: &[u32],
+    out: &mut [u8],
+    at: usize,
+) -> usize
+    requires { ⌜ Judged verdict (now sheet) ⌝ }
+    ensures { λ r. ⌜ Put (replyText verdict (now (sheet .entry)) request (fieldsFrom (now (line .entry)) from)) (now (out .entry)) at r (now (out .exit)) ⌝ }
 {
     match request {
         Request::AirHeat => reply_air_heat(fields::read_one(line, from), out, at),
         Request::AirPsi => reply_air_psi(fields::read_one(line, from), out, at),
         Request::AirCp => reply_air_cp(fields::read_one(line, from), out, at),
         Request::AirTemperature => reply_air_temperature(fields::read_one(line, from), out, at),
+        Request::Burn => reply_burn(fields::read_three(line, from), out, at),
+        Request::OfGas(quantity) => {
+            let asked = requests::asked_of(fields::read_four(line, from), verdict);
+            reply_quantity(quantity, asked, sheet, out, at)
+        }
+        Request::Mark => marks::reply_mark(line, from, out, at),
         Request::Unknown => put_unknown(out, at),
     }
 }

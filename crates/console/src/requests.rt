@@ -1,18 +1,33 @@
-// The words that requests begin with.
+// The words that requests begin with, and what their numbers and the sheet's verdict come to.
+use air::Refusal;
+use fields::Four;
+use gas::Charge;
+use sheet::SheetAnswer;
 ghost use mathlib.Core.Path.{_≡_};
-ghost use Rattle.console.specs.Requests.{requestOf};
+ghost use Rattle.console.specs.Requests.{requestOf, gasRequest, otherRequest, askedOf};
 
 // What a line asks for.
-pub(crate) enum Request {
+pub enum Request {
     AirHeat,
     AirPsi,
     AirCp,
     AirTemperature,
+    Burn,
+    OfGas(Quantity),
+    Mark,
     Unknown,
 }
 
+// What is asked of a gas over a sheet, by four numbers.
+pub enum Quantity {
+    Heat,
+    Content,
+    Specific,
+    Temperature,
+}
+
 // The request that a word names.
-pub(crate) fn request_of(word: &[u8]) -> Request
+pub fn request_of(word: &[u8]) -> Request
     ensures { λ r. ⌜ r ≡ requestOf (now (word .entry)) ⌝ }
 {
     if check::same(word, b"air-heat") {
@@ -27,5 +42,64 @@ pub(crate) fn request_of(word: &[u8]) -> Request
     if check::same(word, b"air-temperature") {
         return Request::AirTemperature;
     }
+    gas_request(word)
+}
+
+// The request about a gas that a word names.
+fn gas_request(word: &[u8]) -> Request
+    ensures { λ r. ⌜ r ≡ gasRequest (now (word .entry)) ⌝ }
+{
+    if check::same(word, b"burn") {
+        return Request::Burn;
+    }
+    if check::same(word, b"gas-heat") {
+        return Request::OfGas(Quantity::Heat);
+    }
+    if check::same(word, b"content") {
+        return Request::OfGas(Quantity::Content);
+    }
+    if check::same(word, b"specific-content") {
+        return Request::OfGas(Quantity::Specific);
+    }
+    if check::same(word, b"temperature") {
+        return Request::OfGas(Quantity::Temperature);
+    }
+    other_request(word)
+}
+
+// The request about a page that a word names.
+fn other_request(word: &[u8]) -> Request
+    ensures { λ r. ⌜ r ≡ otherRequest (now (word .entry)) ⌝ }
+{
+    if check::same(word, b"mark") {
+        return Request::Mark;
+    }
     Request::Unknown
+}
+
+// A charge with a fourth number, to be asked of a sheet that was judged; the refusal that the sheet was given when it was read; or fields of another form.
+pub enum Asked {
+    Of(Charge, i64),
+    Refused(Refusal),
+    Misfit,
+}
+
+// What four numbers and the sheet's verdict come to.
+pub fn asked_of(numbers: Four, verdict: SheetAnswer) -> Asked
+    ensures { λ r. ⌜ r ≡ askedOf numbers verdict ⌝ }
+{
+    match numbers {
+        Four::Are(air, carbon, hydrogen, number) => match verdict {
+            SheetAnswer::Good => Asked::Of(
+                Charge {
+                    air,
+                    carbon,
+                    hydrogen,
+                },
+                number,
+            ),
+            SheetAnswer::Refused(refusal) => Asked::Refused(refusal),
+        },
+        Four::Not => Asked::Misfit,
+    }
 }

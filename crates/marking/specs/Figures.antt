@@ -1,10 +1,20 @@
 -- Station figures (document 01, "Figures for the pages and typed answers"): whole numbers as binary64 floats. Definitions only.
 -- The three figures are mK, specific content in 0.00001 C.H.U./lb, and total mass in mg.
 use mathlib.Core.Bool.{Bool, true, false}
+use mathlib.Core.List.{List}
+use Prim.Native.Nat.{ℕ}
 use lib.IntN.{ℤ, pos, negsuc, natAbs}
-use lib.Ieee.{Float, binary64, ofInt}
+use lib.Ieee.{Float, binary64, ofInt, sub}
 use lib.Ieee.Exact.{HasValue}
+use Rattle.signed.specs.Zed.{up}
+use Rattle.air.specs.Refusals.{Told, gives, refused, first}
+use Rattle.gas.specs.declared.Charge.{Charge}
+use Rattle.gas.specs.Burning.{document01, gasOf, totalMass}
+use Rattle.gas.specs.Heat.{specificContent}
+use Rattle.gas.specs.Answers.{heatOrder}
 use Rattle.marking.specs.declared.StationFigure.{StationFigure}
+use Rattle.marking.specs.declared.StationAnswer.{StationAnswer}
+use Rattle.marking.specs.declared.StationAnswer.the-variants.{Is, Refused}
 
 -- a whole number converted; "with no loss" is the law `figure-exact`
 abbrev pub figure : ℤ → Float
@@ -22,3 +32,33 @@ below0 (negsuc n) = true
 -- x is the whole number z, neither more nor less: finite, with the sign of z, so that 0 is +0, and |z| / 1 in size
 abbrev pub Exactly : ℤ → Float → Type 0
 Exactly z x = HasValue x (below0 z) (natAbs z) 1
+
+-- three figures are these whole numbers, neither more nor less
+pub record AllExactly (mk specific mass : ℤ) (f : StationFigure) : Type 0 where
+  pub mk-is : Exactly mk (f .millikelvin)
+  pub content-is : Exactly specific (f .content)
+  pub mass-is : Exactly mass (f .mass)
+
+-- "the difference of two like figures is one float subtraction", for each of the three
+abbrev pub differences : StationFigure → StationFigure → StationFigure
+differences f g = record {
+  millikelvin = sub binary64 (f .millikelvin) (g .millikelvin);
+  content = sub binary64 (f .content) (g .content);
+  mass = sub binary64 (f .mass) (g .mass);
+}
+
+-- a station's specific content and total mass (document 01, "Burning")
+abbrev pub stationSpecific : Charge → ℤ → List ℕ → ℤ
+stationSpecific ch mk s = specificContent document01 s (gasOf ch) (up mk)
+
+abbrev pub stationMass : Charge → ℤ
+stationMass ch = pos (totalMass document01 (gasOf ch))
+
+-- what a station tells: the first of refusals 1, 3, 4, 5, 6 that holds, else its figures
+abbrev pub stationTold : Charge → ℤ → List ℕ → Told StationFigure
+stationTold ch mk s = first (heatOrder document01 ch mk s) (figuresOf mk (stationSpecific ch mk s) (stationMass ch))
+
+-- each case of a station's answer: the figures, or the refusal's number
+abbrev pub paperStation : StationAnswer → Told StationFigure
+paperStation (Is f) = gives f
+paperStation (Refused r) = refused r

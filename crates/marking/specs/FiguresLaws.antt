@@ -130,3 +130,9 @@ difference-exact x y h k l = rw (sub-whole binary64 x y (in-float x h) (in-float
 -- "the difference of two like figures .. equals the whole-number difference": with no condition on it, for figures up to 2^52 in size
 pub like-figures : (x y : ℤ) → natAbs x ≤ 2 ^ 52 → natAbs y ≤ 2 ^ 52 → Exactly (x -ℤ y) (sub binary64 (figure x) (figure y))
 like-figures x y h k = difference-exact x y (omega arith) (omega arith) (omega (arith, abs-parts x, abs-parts y, abs-parts (x -ℤ y), is-minus (is-self x) (is-self y), apart (x -ℤ y)))
+
+-- and a figure less itself is +0
+pub less-itself : (x : ℤ) → natAbs x ≤ 2 ^ 53 → Exactly (pos 0) (sub binary64 (figure x) (figure x))
+less-itself x h =
+    let e : x -ℤ x ≡ pos 0 = same (omega (arith, is-minus (is-self x) (is-self x))) in
+    rw (sub-whole binary64 x x (in-float x h) (in-float x h), e) (figure-exact (pos 0) (omega arith))

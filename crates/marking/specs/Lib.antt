@@ -4,4 +4,5 @@ pub mod Exact
 pub mod Division
 pub mod Figures
 pub mod FiguresLaws
+pub mod StationLaws
 pub mod OneOutcome

@@ -1,13 +1,19 @@
 -- No two outcomes satisfy the promise of a call on figures and typed answers: `one-NAME` for each entry NAME. Assumes nothing.
 use mathlib.Core.Path.{_≡_, refl, sym, _∙_}
 use mathlib.Core.Bool.{Bool, true, false}
-use Prim.Native.Nat.{_-_}
+use mathlib.Core.List.{List}
+use Prim.Native.Nat.{ℕ}
 use lib.IntN.{ℤ}
 use lib.Ieee.{Float, binary64, sub}
 use Rattle.air.specs.Refusals.{Told, gives, refuses, refusesRow}
 use Rattle.air.specs.declared.Refusal.the-variants.{Plain, AtRow}
 use Rattle.air.specs.RefusalsLaws.{one-told}
+use Rattle.gas.specs.declared.Charge.{Charge}
 use Rattle.marking.specs.Marking.{marked, paper}
+use Rattle.marking.specs.Figures.{stationTold, paperStation}
+use Rattle.marking.specs.declared.StationFigure.{StationFigure}
+use Rattle.marking.specs.declared.StationAnswer.{StationAnswer}
+use Rattle.marking.specs.declared.StationAnswer.the-variants.{Is as StationIs, Refused as StationRefused}
 use Rattle.marking.specs.declared.Typed.{Typed}
 use Rattle.marking.specs.declared.MarkAnswer.{MarkAnswer}
 use Rattle.marking.specs.declared.MarkAnswer.the-variants.{Counts, Misses, Refused}
@@ -29,6 +35,22 @@ mark-back (Refused (AtRow number row)) = refl
 -- no two marks satisfy the promise
 pub one-mark : (typed : Typed) (key window : ℤ) (r s : MarkAnswer) → paper r ≡ marked typed key window → paper s ≡ marked typed key window → r ≡ s
 one-mark typed key window = one-told paper markOf mark-back
+
+-- the station's answer that is told so
+stationAnswer : Told StationFigure → StationAnswer
+stationAnswer (gives f) = StationIs f
+stationAnswer (refuses number) = StationRefused (Plain number)
+stationAnswer (refusesRow number row) = StationRefused (AtRow number row)
+
+station-back : (r : StationAnswer) → stationAnswer (paperStation r) ≡ r
+unfolding stationAnswer
+station-back (StationIs f) = refl
+station-back (StationRefused (Plain number)) = refl
+station-back (StationRefused (AtRow number row)) = refl
+
+-- no two answers satisfy the promise of `station`
+pub one-station : (ch : Charge) (mk : ℤ) (s : List ℕ) (r q : StationAnswer) → paperStation r ≡ stationTold ch mk s → paperStation q ≡ stationTold ch mk s → r ≡ q
+one-station ch mk s = one-told paperStation stationAnswer station-back
 
 -- no two floats satisfy the promise of `difference`
 pub one-difference : (a b r s : Float) → r ≡ sub binary64 a b → s ≡ sub binary64 a b → r ≡ s

@@ -1,20 +1,31 @@
 // Figures for the pages and the marking of typed answers (document 01, "Figures for the pages and typed answers").
 // `mark` tells the paper's refusals in its order, 12 then 11, else whether the answer counts by the exact value of the number typed in: specs/Marking.antt.
-// A figure is a whole number as a float, and `difference` is one float subtraction, exact for two like figures: specs/Figures.antt and specs/FiguresLaws.antt.
+// `station` tells refusals 1, 3, 4, 5 and 6, else three whole numbers as floats; `difference` is one float subtraction, exact for two like figures of any two
+// stations: specs/Figures.antt and specs/StationLaws.antt.
 mod division;
 mod exact;
 
+use air::Millikelvin;
 use air::Refusal;
+use gas::Charge;
+use gas::Gas;
+use gas::inner::Admitted;
+use sheet::SheetAnswer;
 ghost use mathlib.Core.Path.{_≡_};
-ghost use mathlib.Core.Bool.{false, not};
+ghost use mathlib.Core.Bool.{true, false, not};
 ghost use mathlib.Core.List.{[], _∷_};
 ghost use Prim.Native.Nat.{_≤_, _<_, _^_};
-ghost use lib.IntN.{natAbs};
+ghost use lib.IntN.{pos, natAbs};
 ghost use lib.Ieee.{binary64, sub};
 ghost use lib.Ieee.Scale.{finite};
+ghost use Rattle.signed.specs.Zed.{up, inZ};
+ghost use Rattle.rows.specs.Rows.{rowsH};
 ghost use Rattle.air.specs.Refusals.{first, _when_};
+ghost use Rattle.sheet.specs.Sheet.{Accepted};
+ghost use Rattle.gas.specs.Burning.{document01, Burns, totalMass};
+ghost use Rattle.gas.specs.Heat.{specificContent};
 ghost use Rattle.marking.specs.Marking.{paper, marked, near, outside};
-ghost use Rattle.marking.specs.Figures.{figuresOf};
+ghost use Rattle.marking.specs.Figures.{figuresOf, paperStation, stationTold};
 
 const KEY_LIMIT: i64 = 1_000_000_000_000;
 
@@ -82,6 +93,12 @@ pub struct StationFigure {
     pub mass: f64,
 }
 
+// A station's figures, or the refusal.
+pub enum StationAnswer {
+    Is(StationFigure),
+    Refused(Refusal),
+}
+
 // The three whole numbers as figures, with no loss.
 fn figures(mk: i64, specific: i64, mass: i64) -> StationFigure
     requires { ⌜ natAbs mk ≤ 2 ^ 53 ⌝ ∗ ⌜ natAbs specific ≤ 2 ^ 53 ⌝ ∗ ⌜ natAbs mass ≤ 2 ^ 53 ⌝ }
@@ -91,6 +108,30 @@ fn figures(mk: i64, specific: i64, mass: i64) -> StationFigure
         millikelvin: mk as f64,
         content: specific as f64,
         mass: mass as f64,
+    }
+}
+
+// The figures of a gas at a temperature.
+fn figures_at(gas: Gas, t: Millikelvin, sheet: &[u32], air: &[u32; 1801]) -> StationFigure
+    requires { ⌜ Burns document01 gas × Accepted (now sheet) × (now air ≡ rowsH) × (inZ (pos 200000) (pos 2000000) (t .0) ≡ true) ⌝ }
+    ensures { λ r. ⌜ r ≡ figuresOf (t .0) (specificContent document01 (now (sheet .entry)) gas (up (t .0))) (pos (totalMass document01 gas)) ⌝ }
+{
+    let specific = gas::inner::specific_at(gas, t, sheet, air);
+    let mass = gas::inner::total_mass(gas);
+    figures(t.0, specific, signed::of_u64(mass))
+}
+
+// The figures of a charge at a temperature.
+pub fn station(charge: Charge, t: Millikelvin, sheet: &[u32]) -> StationAnswer
+    ensures { λ r. ⌜ paperStation r ≡ stationTold charge (t .0) (now (sheet .entry)) ⌝ }
+{
+    let air = rows::columns::heat_column();
+    match sheet::inner::judge(sheet, &air) {
+        SheetAnswer::Refused(r) => StationAnswer::Refused(r),
+        SheetAnswer::Good => match gas::inner::admit_at(charge, t) {
+            Admitted::Burning(gas) => StationAnswer::Is(figures_at(gas, t, sheet, &air)),
+            Admitted::Refused(r) => StationAnswer::Refused(r),
+        },
     }
 }
 

@@ -2,24 +2,47 @@
 // forms (second/README.md): lent lists with a pattern and their sums, sheets and texts made from base lists and edits, blocks of inverses. These functions
 // promise that they are safe and end; what they call is promised below.
 mod air_forms;
+mod inverses;
 mod lists;
 mod sheet_forms;
 
 use fields::Numbers;
+use inverses::Inverse;
 use stream::Held;
 ghost use Prim.Native.Nat.{_≤_};
+ghost use lib.ListN.{length};
 
-// Answers every line of standard input.
+// Answers every line of standard input. The sheet is the built-in one until a line makes another.
 pub fn run() {
     let mut piece = io::large_buffer();
     let mut line = io::large_buffer();
     let mut out = io::large_buffer();
-    answer_input(&mut piece, &mut line, &mut out);
+    let mut sheet = [0u32; 6000];
+    lists::make_list(0, &mut sheet);
+    answer_input(&mut piece, &mut line, &mut sheet, &mut out);
+}
+
+// How many places of the sheet's list are in use, and how far the output is filled.
+struct Desk {
+    places: usize,
+    at: usize,
+}
+
+// A line that is still read, with the desk.
+struct Turn {
+    held: Held,
+    desk: Desk,
 }
 
 // A proved loop has to end, and nothing says that the input does: so it counts its turns down, from a number that no run uses up.
-fn answer_input(piece: &mut [u8], line: &mut [u8], out: &mut [u8]) {
-    let mut held = Held::Bytes(0);
+fn answer_input(piece: &mut [u8], line: &mut [u8], sheet: &mut [u32], out: &mut [u8]) {
+    let mut turn = Turn {
+        held: Held::Bytes(0),
+        desk: Desk {
+            places: 5403,
+            at: 0,
+        },
+    };
     let mut turns = u64::MAX;
     while turns > 0 {
         turns -= 1;
@@ -27,53 +50,65 @@ fn answer_input(piece: &mut [u8], line: &mut [u8], out: &mut [u8]) {
         if n == 0 {
             turns = 0;
         } else {
-            held = answer_piece(held, &piece[..n], line, out);
+            turn = answer_piece(turn, &piece[..n], line, sheet, out);
         }
     }
-    answer_last(held, line, out);
+    answer_last(turn, line, sheet, out);
 }
 
 // Answers the lines that end in a piece, and writes the answers.
-fn answer_piece(held: Held, piece: &[u8], line: &mut [u8], out: &mut [u8]) -> Held {
-    let mut held = held;
-    let mut at = 0;
+fn answer_piece(
+    turn: Turn,
+    piece: &[u8],
+    line: &mut [u8],
+    sheet: &mut [u32],
+    out: &mut [u8],
+) -> Turn {
+    let mut held = turn.held;
+    let mut desk = turn.desk;
     let mut from = 0;
     while from < piece.len() {
         let taken = stream::take_line(held, piece, from, line);
         held = taken.held;
         from = taken.next;
         if taken.whole {
-            at = answer_held(held, line, out, at);
+            desk = answer_held(held, desk, line, sheet, out);
             held = Held::Bytes(0);
         }
     }
-    stream::flush(out, at);
-    held
+    let at = stream::flush(out, desk.at);
+    Turn {
+        held,
+        desk: Desk {
+            places: desk.places,
+            at,
+        },
+    }
 }
 
 // Answers a last line that no line feed ended.
-fn answer_last(held: Held, line: &[u8], out: &mut [u8]) {
+fn answer_last(turn: Turn, line: &[u8], sheet: &mut [u32], out: &mut [u8]) {
+    let held = turn.held;
     if let Held::Bytes(n) = held {
         if n == 0 {
             return;
         }
     }
-    let at = answer_held(held, line, out, 0);
-    stream::flush(out, at);
+    let desk = answer_held(held, turn.desk, line, sheet, out);
+    stream::flush(out, desk.at);
 }
 
-// Puts the answer to the line that is held. Answers the place to go on at.
-fn answer_held(held: Held, line: &[u8], out: &mut [u8], at: usize) -> usize {
+// Answers the line that is held.
+fn answer_held(held: Held, desk: Desk, line: &[u8], sheet: &mut [u32], out: &mut [u8]) -> Desk {
     match held {
         Held::Bytes(n) => {
             if n <= line.len() {
-                let next = answer(&line[..n], out, at);
-                stream::make_room(out, next)
+                answer(&line[0..n], desk, sheet, out)
             } else {
-                at
+                desk
             }
         }
-        Held::Over => at,
+        Held::Over => desk,
     }
 }
 
@@ -84,16 +119,19 @@ enum Form {
     AirTemperatures,
     List,
     Text,
+    TemperatureInto,
+    Temperatures,
 }
 
-// What a line asks: a further form, or a request of the console.
+// What a line asks: another sheet, a further form, or a request of the console.
 enum Asked {
+    Sheet,
     Form(Form),
     Request,
 }
 
-// The form that a word names; any other word is a request.
-fn form_of(word: &[u8]) -> Asked {
+// The form about sheets or air that a word names; any other word is a request.
+fn asked_by(word: &[u8]) -> Asked {
     if check::same(word, b"air-row") {
         return Asked::Form(Form::AirRow);
     }
@@ -109,6 +147,20 @@ fn form_of(word: &[u8]) -> Asked {
     if check::same(word, b"text") {
         return Asked::Form(Form::Text);
     }
+    if check::same(word, b"sheet") {
+        return Asked::Sheet;
+    }
+    gas_asked_by(word)
+}
+
+// The form about a gas that a word names.
+fn gas_asked_by(word: &[u8]) -> Asked {
+    if check::same(word, b"temperature-into") {
+        return Asked::Form(Form::TemperatureInto);
+    }
+    if check::same(word, b"temperatures") {
+        return Asked::Form(Form::Temperatures);
+    }
     Asked::Request
 }
 
@@ -123,29 +175,81 @@ fn count_of(numbers: Numbers, places: usize) -> usize
 }
 
 // Puts the answer to one of the further forms.
-fn put_form(form: Form, numbers: &[i64], out: &mut [u8], at: usize) -> usize {
+fn put_form(form: Form, numbers: &[i64], sheet: &[u32], out: &mut [u8], at: usize) -> usize {
     match form {
         Form::AirRow => air_forms::put_row(numbers, out, at),
-        Form::AirTemperatureInto => air_forms::put_into(numbers, out, at),
-        Form::AirTemperatures => air_forms::put_block(numbers, out, at),
+        Form::AirTemperatureInto => inverses::put_psi_into(numbers, out, at),
+        Form::AirTemperatures => inverses::put_block(Inverse::Psi, numbers, 0, sheet, out, at),
         Form::List => sheet_forms::put_list(numbers, out, at),
         Form::Text => sheet_forms::put_text(numbers, out, at),
+        Form::TemperatureInto => inverses::put_heat_into(numbers, sheet, out, at),
+        Form::Temperatures => {
+            let charge = inverses::charge_at(numbers, 0);
+            inverses::put_block(Inverse::Gas(charge), numbers, 3, sheet, out, at)
+        }
     }
 }
 
-// Puts the answer to a line of a further form, its numbers read, and its line feed.
-fn answer_form(form: Form, line: &[u8], from: usize, out: &mut [u8], at: usize) -> usize {
-    let mut list = [0i64; 64];
-    let n = count_of(fields::read_numbers(line, from, &mut list), 64);
-    let next = put_form(form, &list[..n], out, at);
+// Answers a line of a further form, its numbers read.
+fn answer_form(
+    form: Form,
+    line: &[u8],
+    from: usize,
+    sheet: &[u32],
+    out: &mut [u8],
+    at: usize,
+) -> usize {
+    let mut list = [0i64; 300];
+    let n = count_of(fields::read_numbers(line, from, &mut list), 300);
+    let next = put_form(form, &list[..n], sheet, out, at);
     text::put_byte(10, out, next)
 }
 
-// Puts the answer to a line, its line feed with it.
-fn answer(line: &[u8], out: &mut [u8], at: usize) -> usize {
+// Makes another sheet, its numbers lent.
+fn make_sheet(numbers: &[i64], sheet: &mut [u32], out: &mut [u8], at: usize) -> Desk {
+    let places = lists::bounded(lists::number_at(numbers, 1), sheet.len());
+    let next = sheet_forms::put_judged(numbers, &mut sheet[0..places], out, at);
+    Desk {
+        places,
+        at: text::put_byte(10, out, next),
+    }
+}
+
+// Makes the sheet that a line asks for.
+fn answer_sheet(line: &[u8], from: usize, sheet: &mut [u32], out: &mut [u8], at: usize) -> Desk {
+    let mut list = [0i64; 300];
+    let n = count_of(fields::read_numbers(line, from, &mut list), 300);
+    make_sheet(&list[..n], sheet, out, at)
+}
+
+// Answers a line over the sheet that is in use.
+fn answer_asked(
+    asked: Asked,
+    line: &[u8],
+    from: usize,
+    sheet: &[u32],
+    out: &mut [u8],
+    at: usize,
+) -> usize {
+    match asked {
+        Asked::Form(form) => answer_form(form, line, from, sheet, out, at),
+        Asked::Request => console::answer(line, sheet, out, at),
+        Asked::Sheet => at,
+    }
+}
+
+// Answers a line, its line feed with it.
+fn answer(line: &[u8], desk: Desk, sheet: &mut [u32], out: &mut [u8]) -> Desk {
     let end = fields::field_end(line, 0);
-    match form_of(&line[0..end]) {
-        Asked::Form(form) => answer_form(form, line, end + 1, out, at),
-        Asked::Request => console::answer(line, out, at),
+    let asked = asked_by(&line[0..end]);
+    if let Asked::Sheet = asked {
+        let made = answer_sheet(line, end + 1, sheet, out, desk.at);
+        return made;
+    }
+    let places = lists::least(desk.places, sheet.len());
+    let next = answer_asked(asked, line, end + 1, &sheet[0..places], out, desk.at);
+    Desk {
+        places,
+        at: stream::make_room(out, next),
     }
 }

@@ -10,8 +10,8 @@ fn put_verdict(answer: SheetAnswer, out: &mut [u8], at: usize) -> usize {
     }
 }
 
-// Judges the base list of the first number, edited by the third on.
-fn put_judged(numbers: &[i64], list: &mut [u32], out: &mut [u8], at: usize) -> usize {
+// Makes the base list of the first number, edited by the third on, and judges it.
+pub fn put_judged(numbers: &[i64], list: &mut [u32], out: &mut [u8], at: usize) -> usize {
     lists::make_list(lists::number_at(numbers, 0), list);
     lists::edit_list(list, numbers, 2);
     put_verdict(sheet::judge_sheet(list), out, at)

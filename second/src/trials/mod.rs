@@ -26,7 +26,7 @@ pub enum Part {
     Program,
 }
 
-pub const BUILT: Part = Part::Sheet;
+pub const BUILT: Part = Part::Gas;
 
 /// One trial: its name, the part it needs, and its request lines for what is built.
 pub struct Trial {

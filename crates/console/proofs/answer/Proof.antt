@@ -1,68 +1,27 @@
-use Rattle.console.specs.AnswersLaws.{answer-is}
-use Rattle.fields.specs.FieldsLaws.{span-from}
-use native.Mathlib.Omega.{arith}
-use Rattle.text.specs.PutLaws.{put-then}
+use Rattle.console.specs.JudgedLaws.{judged-of, judged-once}
 use borrow.Author.Needs.{needs}
 use Rattle.console.proofs.answer.Statement.{statement}
 use Rattle.console.proofs.answer.Tie as tie
 use Rattle.console.proofs.answer.Reads as reads
 use Rattle.console.proofs.answer.Lts as lts
-use Rattle.console.proofs.replies.reply.Reads as reply-reads
-use Rattle.console.proofs.requests.request_of.Reads as request-of-reads
-use Rattle.fields.proofs.field_end.Reads as field-end-reads
-use Rattle.text.proofs.put_byte.Reads as put-byte-reads
+use Rattle.console.proofs.inner.answer_judged.Reads as answer-judged-reads
+use Rattle.sheet.proofs.judge_sheet.Reads as judge-sheet-reads
 
--- src/lib.rt:14:9
-field-end-requires : tie.Need-field-end-requires
-field-end-requires c κs = search needs
-
--- src/lib.rt:15:40
-sub-request-of : tie.Need-sub-request-of
-sub-request-of c = search needs
-
--- src/lib.rt:15:40
-part-request-of-start : tie.Need-part-request-of-start
-part-request-of-start c = search needs
-
--- src/lib.rt:15:40
-part-request-of-end : tie.Need-part-request-of-end
-part-request-of-end c = omega (arith, c .field-end .ensures, span-from (c .before .before .before .args .line .now) 0 (omega arith))
-
--- src/lib.rt:15:9
-request-of-requires : tie.Need-request-of-requires
-request-of-requires c κs = search needs
-
--- src/lib.rt:16:46
-add-reply : tie.Need-add-reply
-add-reply c = omega (arith, c .before .before .field-end .ensures, span-from (c .before .before .before .before .before .args .line .now) 0 (omega arith))
-
--- src/lib.rt:16:9
-reply-requires : tie.Need-reply-requires
-reply-requires c κs = search needs
+-- src/lib.rt:17:32
+judge-sheet-requires : tie.Need-judge-sheet-requires
+judge-sheet-requires c κs = search needs
 
 -- src/lib.rt:17:5
-put-byte-requires : tie.Need-put-byte-requires
-put-byte-requires c κs = search needs
+answer-judged-requires : tie.Need-answer-judged-requires
+answer-judged-requires c κs = judged-of (c .before .before .before .before .before .args .sheet .now) (c .before .judge-sheet .result) (c .before .judge-sheet .ensures)
 
--- src/lib.rt:11:1
+-- src/lib.rt:14:1
 same-length : tie.Need-same-length
 same-length c = search needs
 
--- src/lib.rt:11:1
+-- src/lib.rt:14:1
 returns : tie.Need-returns
-returns c = rw (answer-is (c .before .before .before .before .before .before .before .before .before .before .before .before .before .args .line .now) (c .before .before .before .before .before .before .before .before .before .before .field-end .result) (c .before .before .before .before .before .before .before .before .before .before .field-end .ensures), ← c .before .before .before .before .before .before .before .before .request-of .ensures) (put-then (c .before .before .before .before .before .before .reply .ensures) (c .before .before .put-byte .ensures))
+returns c = rw (judged-once (c .before .before .before .before .before .before .before .before .args .sheet .now) (c .before .before .before .before .before .before .before .before .args .line .now) (c .before .before .before .before .judge-sheet .result) (c .before .before .before .before .judge-sheet .ensures)) at (c .before .before .answer-judged .ensures)
 
 pub answer-spec : {M : Type 1} → statement M
-answer-spec =
-    tie.close
-    (tie.spec
-    field-end-requires
-    sub-request-of
-    part-request-of-start
-    part-request-of-end
-    request-of-requires
-    add-reply
-    reply-requires
-    put-byte-requires
-    same-length
-    returns)
+answer-spec = tie.close (tie.spec judge-sheet-requires answer-judged-requires same-length returns)

@@ -5,64 +5,94 @@ use Rattle.trials.proofs.answer.Statement.{statement}
 use Rattle.trials.proofs.answer.Tie as tie
 use Rattle.trials.proofs.answer.Reads as reads
 use Rattle.trials.proofs.answer.Lts as lts
-use Rattle.console.proofs.answer.Reads as answer-reads
 use Rattle.fields.proofs.field_end.Reads as field-end-reads
-use Rattle.trials.proofs.answer_form.Reads as answer-form-reads
-use Rattle.trials.proofs.form_of.Reads as form-of-reads
+use Rattle.stream.proofs.make_room.Reads as make-room-reads
+use Rattle.trials.proofs.answer_asked.Reads as answer-asked-reads
+use Rattle.trials.proofs.answer_sheet.Reads as answer-sheet-reads
+use Rattle.trials.proofs.asked_by.Reads as asked-by-reads
+use Rattle.trials.proofs.lists.least.Reads as least-reads
 
--- src/lib.rt:146:9
+-- src/lib.rt:223:9
 field-end-requires : tie.Need-field-end-requires
 field-end-requires c κs = search needs
 
--- src/lib.rt:147:19
-sub-form-of : tie.Need-sub-form-of
-sub-form-of c = search needs
+-- src/lib.rt:224:26
+sub-asked-by : tie.Need-sub-asked-by
+sub-asked-by c = search needs
 
--- src/lib.rt:147:19
-part-form-of-start : tie.Need-part-form-of-start
-part-form-of-start c = search needs
+-- src/lib.rt:224:26
+part-asked-by-start : tie.Need-part-asked-by-start
+part-asked-by-start c = search needs
 
--- src/lib.rt:147:19
-part-form-of-end : tie.Need-part-form-of-end
-part-form-of-end c = omega (arith, c .field-end .ensures, span-from (c .before .before .before .args .line .now) 0 (omega arith))
+-- src/lib.rt:224:26
+part-asked-by-end : tie.Need-part-asked-by-end
+part-asked-by-end c = omega (arith, c .field-end .ensures, span-from (c .before .before .before .before .args .line .now) 0 (omega arith))
 
--- src/lib.rt:147:11
-form-of-requires : tie.Need-form-of-requires
-form-of-requires c κs = search needs
+-- src/lib.rt:224:9
+asked-by-requires : tie.Need-asked-by-requires
+asked-by-requires c κs = search needs
 
--- src/lib.rt:148:21
-enum-known-form : tie.Need-enum-known-form
-enum-known-form c = search needs
-
--- src/lib.rt:148:54
-add-answer-form : tie.Need-add-answer-form
-add-answer-form c = omega (arith, c .before .before .before .before .before .field-end .ensures, span-from (c .before .before .before .before .before .before .before .before .args .line .now) 0 (omega arith))
-
--- src/lib.rt:148:30
-answer-form-requires : tie.Need-answer-form-requires
-answer-form-requires c κs = search needs
-
--- src/lib.rt:149:49
+-- src/lib.rt:226:39
 enum-told : tie.Need-enum-told
 enum-told c = search needs
 
--- src/lib.rt:149:27
-answer-requires : tie.Need-answer-requires
-answer-requires c κs = search needs
+-- src/lib.rt:226:39
+add-answer-sheet : tie.Need-add-answer-sheet
+add-answer-sheet c = omega (arith, c .before .before .before .before .field-end .ensures, span-from (c .before .before .before .before .before .before .before .before .args .line .now) 0 (omega arith))
 
--- src/lib.rt:145:1
+-- src/lib.rt:226:13
+answer-sheet-requires : tie.Need-answer-sheet-requires
+answer-sheet-requires c κs = search needs
+
+-- src/lib.rt:227:9
 same-length : tie.Need-same-length
 same-length c = search needs
 
--- src/lib.rt:145:1
-returns : tie.Need-returns
-returns c = search needs
-
--- src/lib.rt:145:1
+-- src/lib.rt:227:9
 same-length-2 : tie.Need-same-length-2
 same-length-2 c = search needs
 
--- src/lib.rt:145:1
+-- src/lib.rt:227:9
+returns : tie.Need-returns
+returns c = search needs
+
+-- src/lib.rt:229:9
+least-requires : tie.Need-least-requires
+least-requires c κs = search needs
+
+-- src/lib.rt:230:42
+add-answer-asked : tie.Need-add-answer-asked
+add-answer-asked c = omega (arith, c .before .before .before .before .field-end .ensures, span-from (c .before .before .before .before .before .before .before .before .args .line .now) 0 (omega arith))
+
+-- src/lib.rt:230:51
+sub-answer-asked : tie.Need-sub-answer-asked
+sub-answer-asked c = search needs
+
+-- src/lib.rt:230:51
+part-answer-asked-start : tie.Need-part-answer-asked-start
+part-answer-asked-start c = search needs
+
+-- src/lib.rt:230:51
+part-answer-asked-end : tie.Need-part-answer-asked-end
+part-answer-asked-end c = search needs
+
+-- src/lib.rt:230:9
+answer-asked-requires : tie.Need-answer-asked-requires
+answer-asked-requires c κs = search needs
+
+-- src/lib.rt:233:13
+make-room-requires : tie.Need-make-room-requires
+make-room-requires c κs = search needs
+
+-- src/lib.rt:222:1
+same-length-3 : tie.Need-same-length-3
+same-length-3 c = search needs
+
+-- src/lib.rt:222:1
+same-length-4 : tie.Need-same-length-4
+same-length-4 c = search needs
+
+-- src/lib.rt:222:1
 returns-2 : tie.Need-returns-2
 returns-2 c = search needs
 
@@ -71,16 +101,23 @@ answer-spec =
     tie.close
     (tie.spec
     field-end-requires
-    sub-form-of
-    part-form-of-start
-    part-form-of-end
-    form-of-requires
-    enum-known-form
-    add-answer-form
-    answer-form-requires
+    sub-asked-by
+    part-asked-by-start
+    part-asked-by-end
+    asked-by-requires
     enum-told
-    answer-requires
+    add-answer-sheet
+    answer-sheet-requires
     same-length
-    returns
     same-length-2
+    returns
+    least-requires
+    add-answer-asked
+    sub-answer-asked
+    part-answer-asked-start
+    part-answer-asked-end
+    answer-asked-requires
+    make-room-requires
+    same-length-3
+    same-length-4
     returns-2)

@@ -10,39 +10,39 @@ use Rattle.text.proofs.put_byte.Reads as put-byte-reads
 use Rattle.trials.proofs.count_of.Reads as count-of-reads
 use Rattle.trials.proofs.put_form.Reads as put-form-reads
 
--- src/lib.rt:139:55
+-- src/lib.rt:190:55
 slice-aggregate-read-numbers : tie.Need-slice-aggregate-read-numbers
 slice-aggregate-read-numbers c = search needs
 
--- src/lib.rt:139:22
+-- src/lib.rt:190:22
 read-numbers-requires : tie.Need-read-numbers-requires
 read-numbers-requires c κs = search needs
 
--- src/lib.rt:139:9
+-- src/lib.rt:190:9
 count-of-requires : tie.Need-count-of-requires
 count-of-requires c κs = search needs
 
--- src/lib.rt:140:31
+-- src/lib.rt:191:31
 array-share-prefix-list : tie.Need-array-share-prefix-list
 array-share-prefix-list c = search needs
 
--- src/lib.rt:140:31
+-- src/lib.rt:191:31
 slice-aggregate-put-form : tie.Need-slice-aggregate-put-form
 slice-aggregate-put-form c = simp length-take (omega arith)
 
--- src/lib.rt:140:9
+-- src/lib.rt:191:9
 put-form-requires : tie.Need-put-form-requires
 put-form-requires c κs = search needs
 
--- src/lib.rt:141:5
+-- src/lib.rt:192:5
 put-byte-requires : tie.Need-put-byte-requires
 put-byte-requires c κs = search needs
 
--- src/lib.rt:137:1
+-- src/lib.rt:188:1
 same-length : tie.Need-same-length
 same-length c = search needs
 
--- src/lib.rt:137:1
+-- src/lib.rt:188:1
 returns : tie.Need-returns
 returns c = search needs
 

@@ -1,5 +1,5 @@
 use Rattle.console.specs.AnswersLaws.{used-none, used-more, used-end}
-use Rattle.console.specs.Answers.{used}
+use Rattle.console.specs.Texts.{used}
 use lib.ListN.{length, drop}
 use native.Mathlib.Omega.{arith}
 use mathlib.Core.Path.{_≡_, ap}

@@ -1,5 +1,5 @@
 use Rattle.console.specs.AnswersLaws.{fields-more}
-use Rattle.console.specs.Answers.{fieldsText}
+use Rattle.console.specs.Texts.{fieldsText}
 use Rattle.text.specs.PutLaws.{put-none, put-then}
 use Rattle.text.specs.Put.{Put}
 use lib.ListN.{take}

@@ -1,0 +1,32 @@
+use Rattle.typed.specs.declared.Number.the-variants.{Is}
+use Rattle.typed.specs.Typed.{patternOf}
+use mathlib.Core.Path.{_≡_, refl, sym, _∙_, ap, subst}
+use borrow.Author.Needs.{needs}
+use Rattle.typed.proofs.pattern.Statement.{statement}
+use Rattle.typed.proofs.pattern.Tie as tie
+use Rattle.typed.proofs.pattern.Reads as reads
+use Rattle.typed.proofs.pattern.Lts as lts
+use Rattle.typed.proofs.of_bits.Reads as of-bits-reads
+
+-- src/lib.rt:235:20
+enum-known-s : tie.Need-enum-known-s
+enum-known-s c = search needs
+
+-- src/lib.rt:235:36
+of-bits-requires : tie.Need-of-bits-requires
+of-bits-requires c κs = search needs
+
+-- src/lib.rt:236:21
+enum-told : tie.Need-enum-told
+enum-told c = search needs
+
+-- src/lib.rt:231:1
+returns : tie.Need-returns
+returns c = ap Is (c .of-bits .ensures) ∙ sym (ap patternOf (c .before .before .s .given .1))
+
+-- src/lib.rt:231:1
+returns-2 : tie.Need-returns-2
+returns-2 c = search needs
+
+pub pattern-spec : {M : Type 1} → statement M
+pattern-spec = tie.close (tie.spec enum-known-s of-bits-requires enum-told returns returns-2)

@@ -1,0 +1,63 @@
+use Rattle.typed.specs.declared.Hex.the-variants.{Value}
+use Rattle.typed.specs.Typed.{stepHex, hexOf}
+use Rattle.text.specs.Fold.{run}
+use Rattle.text.specs.FoldLaws.{run-more}
+use lib.Seq.{take-all}
+use lib.ListN.{length, take, getD}
+use Prim.Native.Nat.{_≤_, _-_}
+use mathlib.Core.Path.{_≡_, refl, sym, _∙_, ap, subst}
+use native.Mathlib.Omega.{arith}
+use Rattle.typed.proofs.read_hex.Statement.{statement}
+use Rattle.typed.proofs.read_hex.Tie as tie
+use Rattle.typed.proofs.read_hex.Reads as reads
+use Rattle.typed.proofs.read_hex.Lts as lts
+use Rattle.typed.proofs.step_hex.Reads as step-hex-reads
+
+abbrev Inv-loop : tie.InvT-loop
+Inv-loop text s₀ i₀ s i = (i ≤ length text) × (s ≡ run stepHex (Value 0) (take i text))
+
+abbrev μ-loop : tie.MeasureT-loop
+μ-loop text s₀ i₀ s i = length text - i
+
+-- src/lib.rt:205:5
+loop-holds : tie.Need-loop-holds Inv-loop μ-loop
+loop-holds c = (omega arith, refl)
+
+-- src/lib.rt:206:25
+shared-slice-read-step-hex : tie.Need-shared-slice-read-step-hex Inv-loop μ-loop
+shared-slice-read-step-hex c = omega arith
+
+-- src/lib.rt:206:9
+step-hex-requires : tie.Need-step-hex-requires Inv-loop μ-loop
+step-hex-requires c κs = tt
+
+-- src/lib.rt:207:9
+add-i : tie.Need-add-i Inv-loop μ-loop
+add-i c = omega arith
+
+-- src/lib.rt:205:5
+loop-less : tie.Need-loop-less Inv-loop μ-loop
+loop-less c = omega arith
+
+-- src/lib.rt:205:5
+loop-again : tie.Need-loop-again Inv-loop μ-loop
+loop-again c = (omega arith, (c .step-hex .ensures ∙ ap (λ x. stepHex x (getD (c .before .before .before .before .before .args .text .now) (c .before .before .before .loop .i) 0)) (c .before .before .before .loop .inv .1)) ∙ sym (run-more stepHex (Value 0) (c .before .before .before .before .before .args .text .now) (c .before .before .before .loop .i) (omega arith)))
+
+-- src/lib.rt:200:1
+returns : tie.Need-returns Inv-loop μ-loop
+unfolding hexOf
+returns c = c .before .loop .inv .1 ∙ ap (run stepHex (Value 0)) (take-all (c .before .loop .i) (c .before .before .before .args .text .now) (omega arith))
+
+pub read-hex-spec : {M : Type 1} → statement M
+read-hex-spec =
+    tie.close
+    (tie.spec
+    Inv-loop
+    μ-loop
+    loop-holds
+    shared-slice-read-step-hex
+    step-hex-requires
+    add-i
+    loop-less
+    loop-again
+    returns)
