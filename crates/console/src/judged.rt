@@ -14,7 +14,7 @@ ghost use Rattle.gas.specs.Burning.{document01};
 ghost use Rattle.gas.specs.Answers.{paperHeat, paperSpecific, heatTold, contentTold, specificTold, Temperature};
 
 // The gas heat of a charge at a temperature.
-pub fn gas_heat(charge: Charge, t: Millikelvin, sheet: &[u32]) -> HeatAnswer
+pub(crate) fn gas_heat(charge: Charge, t: Millikelvin, sheet: &[u32]) -> HeatAnswer
     requires { ⌜ Accepted (now sheet) ⌝ }
     ensures { λ r. ⌜ paperHeat r ≡ heatTold document01 charge (t .0) (now (sheet .entry)) ⌝ }
 {
@@ -28,7 +28,7 @@ pub fn gas_heat(charge: Charge, t: Millikelvin, sheet: &[u32]) -> HeatAnswer
 }
 
 // The content of a charge above 15 °C at a temperature.
-pub fn content(charge: Charge, t: Millikelvin, sheet: &[u32]) -> HeatAnswer
+pub(crate) fn content(charge: Charge, t: Millikelvin, sheet: &[u32]) -> HeatAnswer
     requires { ⌜ Accepted (now sheet) ⌝ }
     ensures { λ r. ⌜ paperHeat r ≡ contentTold document01 charge (t .0) (now (sheet .entry)) ⌝ }
 {
@@ -42,7 +42,7 @@ pub fn content(charge: Charge, t: Millikelvin, sheet: &[u32]) -> HeatAnswer
 }
 
 // The specific content of a charge at a temperature.
-pub fn specific_content(charge: Charge, t: Millikelvin, sheet: &[u32]) -> SpecificAnswer
+pub(crate) fn specific_content(charge: Charge, t: Millikelvin, sheet: &[u32]) -> SpecificAnswer
     requires { ⌜ Accepted (now sheet) ⌝ }
     ensures { λ r. ⌜ paperSpecific r ≡ specificTold document01 charge (t .0) (now (sheet .entry)) ⌝ }
 {
@@ -56,7 +56,7 @@ pub fn specific_content(charge: Charge, t: Millikelvin, sheet: &[u32]) -> Specif
 }
 
 // The temperature of a gas heat, the looks in eleven places.
-pub fn temperature(
+pub(crate) fn temperature(
     charge: Charge,
     target: Heat,
     sheet: &[u32],

@@ -99,7 +99,7 @@ fn put_kind(kind: Kind, line: &[u8], from: usize, out: &mut [u8], at: usize) -> 
 }
 
 // mark kelvins x key window, mark content x key window, mark blank key window
-pub fn reply_mark(line: &[u8], from: usize, out: &mut [u8], at: usize) -> usize
+pub(crate) fn reply_mark(line: &[u8], from: usize, out: &mut [u8], at: usize) -> usize
     ensures { λ r. ⌜ Put (markRequest (fieldsFrom (now (line .entry)) from)) (now (out .entry)) at r (now (out .exit)) ⌝ }
 {
     if from > line.len() {

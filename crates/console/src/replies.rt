@@ -28,7 +28,7 @@ fn put_unknown(out: &mut [u8], at: usize) -> usize
 }
 
 // The request takes other fields.
-pub fn put_misfit(out: &mut [u8], at: usize) -> usize
+pub(crate) fn put_misfit(out: &mut [u8], at: usize) -> usize
     ensures { λ r. ⌜ Put misfitText (now (out .entry)) at r (now (out .exit)) ⌝ }
 {
     text::put_text(b"error\tthe request takes other fields", out, at)
@@ -193,7 +193,7 @@ fn reply_quantity(
 }
 
 // The reply to a request with the fields from `from` on.
-pub fn reply(
+pub(crate) fn reply(
     request: Request,
     line: &[u8],
     from: usize,

@@ -27,7 +27,7 @@ pub enum Quantity {
 }
 
 // The request that a word names.
-pub fn request_of(word: &[u8]) -> Request
+pub(crate) fn request_of(word: &[u8]) -> Request
     ensures { λ r. ⌜ r ≡ requestOf (now (word .entry)) ⌝ }
 {
     if check::same(word, b"air-heat") {
@@ -85,7 +85,7 @@ pub enum Asked {
 }
 
 // What four numbers and the sheet's verdict come to.
-pub fn asked_of(numbers: Four, verdict: SheetAnswer) -> Asked
+pub(crate) fn asked_of(numbers: Four, verdict: SheetAnswer) -> Asked
     ensures { λ r. ⌜ r ≡ askedOf numbers verdict ⌝ }
 {
     match numbers {

@@ -30,7 +30,7 @@ pub const MOST_AIR: i64 = 100000;
 pub const MOST_ATOMS: i64 = 50000;
 
 // The masses that take part in the heat.
-pub fn weigh(gas: Gas) -> Masses
+pub(crate) fn weigh(gas: Gas) -> Masses
     requires { ⌜ Limits document01 gas ⌝ }
     ensures { λ r. ⌜ r ≡ massesOf document01 gas ⌝ }
 {
@@ -43,7 +43,7 @@ pub fn weigh(gas: Gas) -> Masses
 }
 
 // The oxygen of the air.
-pub fn oxygen(gas: Gas) -> i64
+pub(crate) fn oxygen(gas: Gas) -> i64
     requires { ⌜ Limits document01 gas ⌝ }
     ensures { λ r. ⌜ r ≡ pos (document01 .airO2 * gas .air) ⌝ }
 {
@@ -51,7 +51,7 @@ pub fn oxygen(gas: Gas) -> i64
 }
 
 // What a lean charge burns to.
-pub fn burnt(gas: Gas) -> Products
+pub(crate) fn burnt(gas: Gas) -> Products
     requires { ⌜ Burns document01 gas ⌝ }
     ensures { λ r. ⌜ r ≡ products document01 gas ⌝ }
 {

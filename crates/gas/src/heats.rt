@@ -22,7 +22,7 @@ fn sum(gas: Masses, air: u64, o2: u64, co2: u64, h2o: u64) -> Heat
 }
 
 // The heat at a whole kelvin.
-pub fn at_kelvin(gas: Masses, kelvin: u64, sheet: &[u32], air: &[u32; 1801]) -> Heat
+pub(crate) fn at_kelvin(gas: Masses, kelvin: u64, sheet: &[u32], air: &[u32; 1801]) -> Heat
     requires { ⌜ Ready gas (now sheet) (now air) × (200 ≤ kelvin) × (kelvin ≤ 2000) ⌝ }
     ensures { λ r. ⌜ r .0 ≡ heatOf gas (now (sheet .entry)) (1000 * kelvin) ⌝ }
 {
@@ -44,7 +44,7 @@ fn along(here: Heat, next: Heat, f: u64) -> Heat
 }
 
 // The heat at a temperature; at 2,000,000 mK no row is read but the last.
-pub fn at_temperature(gas: Masses, t: Millikelvin, sheet: &[u32], air: &[u32; 1801]) -> Heat
+pub(crate) fn at_temperature(gas: Masses, t: Millikelvin, sheet: &[u32], air: &[u32; 1801]) -> Heat
     requires { ⌜ Ready gas (now sheet) (now air) × (inZ (pos 200000) (pos 2000000) (t .0) ≡ true) ⌝ }
     ensures { λ r. ⌜ r .0 ≡ heatOf gas (now (sheet .entry)) (up (t .0)) ⌝ }
 {
@@ -61,7 +61,7 @@ pub fn at_temperature(gas: Masses, t: Millikelvin, sheet: &[u32], air: &[u32; 18
 }
 
 // One heat less another.
-pub fn less(a: Heat, b: Heat) -> Heat
+pub(crate) fn less(a: Heat, b: Heat) -> Heat
     requires { ⌜ SFits w64 (a .0 -ℤ b .0) ⌝ }
     ensures { λ r. ⌜ r .0 ≡ a .0 -ℤ b .0 ⌝ }
 {

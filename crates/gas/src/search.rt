@@ -89,7 +89,7 @@ fn divide(target: Heat, row: Ends) -> TemperatureAnswer
 }
 
 // The answer to a target from `first`, the heat at 200 K, to `last`, the heat at 2,000 K.
-pub fn reached(
+pub(crate) fn reached(
     target: Heat,
     first: Heat,
     last: Heat,

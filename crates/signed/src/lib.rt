@@ -32,14 +32,6 @@ pub fn of_u64(x: u64) -> i64
     x as i64
 }
 
-// plus less minus.
-pub fn diff(plus: u64, minus: u64) -> i64
-    requires { ⌜ (plus < 9223372036854775808) × (minus < 9223372036854775808) ⌝ }
-    ensures { λ r. ⌜ r ≡ pos plus -ℤ pos minus ⌝ }
-{
-    plus as i64 - minus as i64
-}
-
 // How far b lies above a.
 pub fn gap(a: i64, b: i64) -> u64
     requires { ⌜ (a ≤ℤ b) × SFits w64 (b -ℤ a) ⌝ }

@@ -6,7 +6,7 @@ use air::Refusal;
 ghost use Prim.Native.Nat.{_≤_};
 
 // A refusal's number.
-pub fn number_of(refusal: Refusal) -> u32 {
+pub(crate) fn number_of(refusal: Refusal) -> u32 {
     match refusal {
         Refusal::Plain(number) => number,
         Refusal::AtRow(number, _) => number,
@@ -52,7 +52,7 @@ fn put_psis(kelvin: usize, out: &mut [u8], at: usize) -> usize
 }
 
 // air-row K
-pub fn put_row(numbers: &[i64], out: &mut [u8], at: usize) -> usize {
+pub(crate) fn put_row(numbers: &[i64], out: &mut [u8], at: usize) -> usize {
     let kelvin = lists::number_at(numbers, 0);
     let near = lists::bounded(kelvin, 1_000_000);
     let ok = text::put_text(b"ok", out, at);

@@ -35,7 +35,7 @@ fn of_gas(answer: TemperatureAnswer) -> Found {
 }
 
 // The charge that three numbers from `from` on are.
-pub fn charge_at(numbers: &[i64], from: usize) -> Charge
+pub(crate) fn charge_at(numbers: &[i64], from: usize) -> Charge
     requires { ⌜ from < 1000 ⌝ }
 {
     Charge {
@@ -62,7 +62,7 @@ fn put_psi(psi: i64, list: &mut [u32], out: &mut [u8], at: usize) -> usize {
 }
 
 // air-temperature-into n psi
-pub fn put_psi_into(numbers: &[i64], out: &mut [u8], at: usize) -> usize {
+pub(crate) fn put_psi_into(numbers: &[i64], out: &mut [u8], at: usize) -> usize {
     let mut list = [0u32; 40];
     let n = lists::bounded(lists::number_at(numbers, 0), 40);
     put_psi(lists::number_at(numbers, 1), &mut list[..n], out, at)
@@ -85,7 +85,7 @@ fn put_heat(
 }
 
 // temperature-into n A c h target
-pub fn put_heat_into(numbers: &[i64], sheet: &[u32], out: &mut [u8], at: usize) -> usize {
+pub(crate) fn put_heat_into(numbers: &[i64], sheet: &[u32], out: &mut [u8], at: usize) -> usize {
     let mut list = [0u32; 40];
     let n = lists::bounded(lists::number_at(numbers, 0), 40);
     let target = lists::number_at(numbers, 4);
@@ -167,7 +167,7 @@ fn ask_block(inverse: Inverse, first: i64, apart: i64, count: usize, sheet: &[u3
 }
 
 // A block whose first target, distance and count stand from `from` on.
-pub fn put_block(
+pub(crate) fn put_block(
     inverse: Inverse,
     numbers: &[i64],
     from: usize,

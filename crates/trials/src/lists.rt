@@ -6,7 +6,7 @@ ghost use lib.ListN.{length};
 const MODULUS: u64 = 2_147_483_647;
 
 // The number, cut to 0 to `most`.
-pub fn bounded(z: i64, most: usize) -> usize
+pub(crate) fn bounded(z: i64, most: usize) -> usize
     ensures { λ r. ⌜ r ≤ most ⌝ }
 {
     if z < 0 {
@@ -16,14 +16,14 @@ pub fn bounded(z: i64, most: usize) -> usize
 }
 
 // The smaller of two numbers.
-pub fn least(a: usize, b: usize) -> usize
+pub(crate) fn least(a: usize, b: usize) -> usize
     ensures { λ r. ⌜ r ≤ b ⌝ }
 {
     if a < b { a } else { b }
 }
 
 // The number at a place, 0 where there is none.
-pub fn number_at(numbers: &[i64], i: usize) -> i64 {
+pub(crate) fn number_at(numbers: &[i64], i: usize) -> i64 {
     if i < numbers.len() { numbers[i] } else { 0 }
 }
 
@@ -42,12 +42,12 @@ fn narrow(n: u64) -> u32 {
 }
 
 // The sum so far taken on by one more number.
-pub fn take_on(sum: u64, number: u64) -> u64 {
+pub(crate) fn take_on(sum: u64, number: u64) -> u64 {
     (31 * (sum % MODULUS) + number % MODULUS) % MODULUS
 }
 
 // The sum so far taken on by each place of a list.
-pub fn sum_from(sum: u64, list: &[u32]) -> u64 {
+pub(crate) fn sum_from(sum: u64, list: &[u32]) -> u64 {
     let mut s = sum;
     let mut i = 0;
     while i < list.len() {
@@ -58,7 +58,7 @@ pub fn sum_from(sum: u64, list: &[u32]) -> u64 {
 }
 
 // Writes what each place of a lent list holds before a call, 7,000,000 and its index.
-pub fn fill_pattern(list: &mut [u32]) {
+pub(crate) fn fill_pattern(list: &mut [u32]) {
     let mut i = 0;
     while i < list.len() {
         list[i] = 7_000_000 + (i % 100_000) as u32;
@@ -114,7 +114,7 @@ fn fill_built_in(list: &mut [u32]) {
 }
 
 // Makes a base list, cut or with zeros behind it to the list's length.
-pub fn make_list(base: i64, list: &mut [u32]) {
+pub(crate) fn make_list(base: i64, list: &mut [u32]) {
     fill(list, list.len(), 0);
     match base {
         0 => fill_built_in(list),
@@ -136,7 +136,7 @@ fn edit(list: &mut [u32], place: usize, count: usize, value: u32)
 }
 
 // Edits a list by the numbers from `from` on, three an edit: a place, a count and a value.
-pub fn edit_list(list: &mut [u32], numbers: &[i64], from: usize) {
+pub(crate) fn edit_list(list: &mut [u32], numbers: &[i64], from: usize) {
     let mut i = from;
     while i < numbers.len() {
         let place = bounded(numbers[i], 6000);
@@ -170,7 +170,7 @@ fn put_sheet(list: &[u32], buf: &mut [u8]) -> usize {
 }
 
 // Makes a base text: that of a base list, or for 3 the empty one. Answers its length.
-pub fn make_text(base: i64, buf: &mut [u8]) -> usize {
+pub(crate) fn make_text(base: i64, buf: &mut [u8]) -> usize {
     if base == 3 {
         return 0;
     }
@@ -191,7 +191,13 @@ fn put_bytes(numbers: &[i64], from: usize, buf: &mut [u8], at: usize) -> usize {
 }
 
 // Puts a text in which `drop` bytes from `at` on are replaced by those that the numbers are from the fifth on.
-pub fn put_edited(base: &[u8], at: usize, drop: usize, numbers: &[i64], buf: &mut [u8]) -> usize
+pub(crate) fn put_edited(
+    base: &[u8],
+    at: usize,
+    drop: usize,
+    numbers: &[i64],
+    buf: &mut [u8],
+) -> usize
     requires { ⌜ at + drop ≤ length (now base) ⌝ }
 {
     let kept = text::put_text(&base[0..at], buf, 0);

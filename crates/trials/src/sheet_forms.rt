@@ -11,14 +11,14 @@ fn put_verdict(answer: SheetAnswer, out: &mut [u8], at: usize) -> usize {
 }
 
 // Makes the base list of the first number, edited by the third on, and judges it.
-pub fn put_judged(numbers: &[i64], list: &mut [u32], out: &mut [u8], at: usize) -> usize {
+pub(crate) fn put_judged(numbers: &[i64], list: &mut [u32], out: &mut [u8], at: usize) -> usize {
     lists::make_list(lists::number_at(numbers, 0), list);
     lists::edit_list(list, numbers, 2);
     put_verdict(sheet::judge_sheet(list), out, at)
 }
 
 // list b n place count value ..
-pub fn put_list(numbers: &[i64], out: &mut [u8], at: usize) -> usize {
+pub(crate) fn put_list(numbers: &[i64], out: &mut [u8], at: usize) -> usize {
     let mut list = [0u32; 6000];
     let n = lists::bounded(lists::number_at(numbers, 1), 6000);
     put_judged(numbers, &mut list[..n], out, at)
@@ -51,7 +51,7 @@ fn put_made(numbers: &[i64], list: &mut [u32], out: &mut [u8], at: usize) -> usi
 }
 
 // text b n at drop byte ..
-pub fn put_text(numbers: &[i64], out: &mut [u8], at: usize) -> usize {
+pub(crate) fn put_text(numbers: &[i64], out: &mut [u8], at: usize) -> usize {
     let mut list = [0u32; 6000];
     let n = lists::bounded(lists::number_at(numbers, 1), 6000);
     put_made(numbers, &mut list[..n], out, at)
