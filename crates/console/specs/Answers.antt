@@ -7,6 +7,7 @@ use Rattle.text.specs.declared.Whole.the-variants.{Is, Not}
 use Rattle.fields.specs.declared.Three.{Three}
 use Rattle.fields.specs.declared.Three.the-variants.{Are as AreThree, Not as NotThree}
 use Rattle.fields.specs.Fields.{fieldsOf, oneOf, threeOf, fourOf}
+use Rattle.air.specs.Refusals.{first}
 use Rattle.air.specs.Inverse.{looks}
 use Rattle.air.specs.Answers.{heatTold as airHeatTold, psiTold, cpTold, psiValue, psiInverseTold}
 use Rattle.sheet.specs.Sheet.{Accepted}
@@ -14,16 +15,18 @@ use Rattle.sheet.specs.declared.SheetAnswer.{SheetAnswer}
 use Rattle.sheet.specs.declared.SheetAnswer.the-variants.{Good, Refused as SheetRefused}
 use Rattle.gas.specs.Burning.{document01, gasOf}
 use Rattle.gas.specs.Heat.{gasHeat}
-use Rattle.gas.specs.Answers.{burnTold, heatTold, contentTold, specificTold, temperatureTold}
+use Rattle.gas.specs.Answers.{burnTold, heatTold, contentTold, specificTold, temperatureTold, heatOrder}
+use Rattle.marking.specs.Figures.{stationSpecific, stationMass}
 use Rattle.console.specs.declared.requests.Request.{Request}
-use Rattle.console.specs.declared.requests.Request.the-variants.{AirHeat, AirPsi, AirCp, AirTemperature, Burn, OfGas, Mark, Unknown}
+use Rattle.console.specs.declared.requests.Request.the-variants.{AirHeat, AirPsi, AirCp, AirTemperature, Burn, OfGas, Walk, Mark, Unknown}
 use Rattle.console.specs.declared.requests.Quantity.{Quantity}
-use Rattle.console.specs.declared.requests.Quantity.the-variants.{Heat, Content, Specific, Temperature}
+use Rattle.console.specs.declared.requests.Quantity.the-variants.{Heat, Content, Specific, Temperature, Station}
 use Rattle.console.specs.declared.requests.Asked.{Asked}
 use Rattle.console.specs.declared.requests.Asked.the-variants.{Of, Refused, Misfit}
 use Rattle.console.specs.Requests.{requestOf, askedOf}
-use Rattle.console.specs.Texts.{unknownText, misfitText, refusalText, readingText, inverseText, burntText, wholeText}
+use Rattle.console.specs.Texts.{unknownText, misfitText, refusalText, toldText, readingText, inverseText, burntText, wholeText, figuresText}
 use Rattle.console.specs.Marks.{markRequest}
+use Rattle.console.specs.Walks.{walkRequest}
 
 -- air-heat mK
 abbrev pub airHeatText : Whole → List ℕ
@@ -74,12 +77,20 @@ temperatureText s (Of charge target) = inverseText (temperatureTold document01 c
 temperatureText s (Refused r) = refusalText r
 temperatureText s Misfit = misfitText
 
+-- station A c h mK: each figure is exactly its number (`station-exact` of marking)
+abbrev pub stationText : List ℕ → Asked → List ℕ
+stationText s (Of charge mk) =
+    toldText figuresText (first (heatOrder document01 charge mk s) (record { mk = mk; specific = stationSpecific charge mk s; mass = stationMass charge }))
+stationText s (Refused r) = refusalText r
+stationText s Misfit = misfitText
+
 -- what is asked of a gas
 abbrev pub quantityText : Quantity → List ℕ → Asked → List ℕ
 quantityText Heat s asked = gasHeatText s asked
 quantityText Content s asked = contentText s asked
 quantityText Specific s asked = specificText s asked
 quantityText Temperature s asked = temperatureText s asked
+quantityText Station s asked = stationText s asked
 
 -- the reply to a request, by its further fields
 abbrev pub replyText : SheetAnswer → List ℕ → Request → List (List ℕ) → List ℕ
@@ -89,6 +100,7 @@ replyText verdict s AirCp fs = airCpText (oneOf fs)
 replyText verdict s AirTemperature fs = airTemperatureText (oneOf fs)
 replyText verdict s Burn fs = burnText (threeOf fs)
 replyText verdict s (OfGas quantity) fs = quantityText quantity s (askedOf (fourOf fs) verdict)
+replyText verdict s Walk fs = walkRequest verdict s fs
 replyText verdict s Mark fs = markRequest fs
 replyText verdict s Unknown fs = unknownText
 

@@ -1,13 +1,14 @@
 -- A sheet that was judged once answers as one that every call judges: past its refusals the orders of the calls on a gas go on, and a refusal of the sheet is theirs.
 -- Assumes nothing.
-use Prim.Native.Nat.{ℕ, _≤_}
+use Prim.Native.Nat.{ℕ, _≤_, _/_}
 use mathlib.Core.Path.{_≡_, refl, sym, _∙_, ap}
 use mathlib.Core.List.{List, [], _∷_, _++_}
 use borrow.Author.Tests.{le-ltb}
 use lib.Dec.{ltb}
 use lib.IntN.{ℤ}
+use lib.ListN.{length, drop}
 use Rattle.signed.specs.Zed.{up}
-use Rattle.fields.specs.Fields.{fieldsOf, fourOf}
+use Rattle.fields.specs.Fields.{fieldsOf, fourOf, valuesOf, countAll}
 use Rattle.fields.specs.declared.Four.{Four}
 use Rattle.fields.specs.declared.Four.the-variants.{Are, Not}
 use Rattle.air.specs.declared.Refusal.{Refusal}
@@ -23,14 +24,17 @@ use Rattle.gas.specs.Burning.{Weights, document01, gasOf}
 use Rattle.gas.specs.Heat.{gasHeat, contentAbove15, specificContent}
 use Rattle.gas.specs.Answers.{chargeLines, temperatureLines, heatOrder, searchOrder, inverseTold}
 use Rattle.air.specs.Inverse.{unreached, found, looks}
+use Rattle.marking.specs.Figures.{stationSpecific, stationMass}
+use Rattle.walk.specs.Walk.{Trace, run, width, stepsOf, startLines, startState, walked}
 use Rattle.console.specs.declared.requests.Request.{Request}
-use Rattle.console.specs.declared.requests.Request.the-variants.{AirHeat, AirPsi, AirCp, AirTemperature, Burn, OfGas, Mark, Unknown}
+use Rattle.console.specs.declared.requests.Request.the-variants.{AirHeat, AirPsi, AirCp, AirTemperature, Burn, OfGas, Walk, Mark, Unknown}
 use Rattle.console.specs.declared.requests.Quantity.{Quantity}
-use Rattle.console.specs.declared.requests.Quantity.the-variants.{Heat, Content, Specific, Temperature}
+use Rattle.console.specs.declared.requests.Quantity.the-variants.{Heat, Content, Specific, Temperature, Station}
 use Rattle.console.specs.declared.requests.Asked.the-variants.{Of, Refused as AskedRefused}
 use Rattle.console.specs.Requests.{requestOf, askedOf}
-use Rattle.console.specs.Texts.{refusalText, toldText, foundText, valueText, wholeText}
-use Rattle.console.specs.Answers.{temperatureText, quantityText, replyText, answerFields, answerOf, Judged, Ready}
+use Rattle.console.specs.Texts.{refusalText, toldText, foundText, valueText, wholeText, figuresText}
+use Rattle.console.specs.Answers.{temperatureText, stationText, quantityText, replyText, answerFields, answerOf, Judged, Ready}
+use Rattle.console.specs.Walks.{walkTold, walkText, startOf, walkOf, printedWalk}
 use Rattle.console.specs.AnswersLaws.{told-refused}
 
 -- past an accepted sheet: 4, 5 and 6 of a heat, and 4 and 5 of a search with eleven places
@@ -66,6 +70,14 @@ module _ (s : List ℕ) (r : Refusal) (e : paper (Refused r) ≡ judgeTold s) wh
         let v = gasHeat document01 s (gasOf ch) in
         refusal-is (foundText (looks v n)) ((10 when ltb 11 11 ∷ chargeLines document01 ch) ++ unreached v n) (found v n)
 
+    station-refused : stationText s (AskedRefused r) ≡ stationText s (Of ch n)
+    station-refused = refusal-is figuresText (chargeLines document01 ch ++ temperatureLines n) (record { mk = n; specific = stationSpecific ch n s; mass = stationMass ch })
+
+    pub walk-refused : (numbers : List ℤ) → walkTold (Refused r) s ch n numbers ≡ walkTold Good s ch n numbers
+    unfolding walked
+    walk-refused numbers =
+        sym (stopped-by-sheet s r (startLines document01 ch n (length numbers) 64 64 704) (run document01 s (startState ch n) (stepsOf (length numbers / width) numbers)) e)
+
   quantity-refused : (q : Quantity) (numbers : Four) → quantityText q s (askedOf numbers (Refused r)) ≡ quantityText q s (askedOf numbers Good)
   quantity-refused Heat (Are a c h n) =
       let ch : Charge = record { air = a; carbon = c; hydrogen = h } in heat-refused ch n (gasHeat document01 s (gasOf ch) (up n))
@@ -74,10 +86,16 @@ module _ (s : List ℕ) (r : Refusal) (e : paper (Refused r) ≡ judgeTold s) wh
   quantity-refused Specific (Are a c h n) =
       let ch : Charge = record { air = a; carbon = c; hydrogen = h } in heat-refused ch n (specificContent document01 s (gasOf ch) (up n))
   quantity-refused Temperature (Are a c h n) = temperature-refused (record { air = a; carbon = c; hydrogen = h }) n
+  quantity-refused Station (Are a c h n) = station-refused (record { air = a; carbon = c; hydrogen = h }) n
   quantity-refused Heat Not = refl
   quantity-refused Content Not = refl
   quantity-refused Specific Not = refl
   quantity-refused Temperature Not = refl
+  quantity-refused Station Not = refl
+
+  walk-of-refused : (numbers : Four) (zs : List ℤ) → walkOf (Refused r) s numbers zs ≡ walkOf Good s numbers zs
+  walk-of-refused (Are a c h n) zs = ap walkText (walk-refused (record { air = a; carbon = c; hydrogen = h }) n zs)
+  walk-of-refused Not zs = refl
 
   reply-refused : (q : Request) (fs : List (List ℕ)) → replyText (Refused r) s q fs ≡ replyText Good s q fs
   reply-refused AirHeat fs = refl
@@ -86,6 +104,7 @@ module _ (s : List ℕ) (r : Refusal) (e : paper (Refused r) ≡ judgeTold s) wh
   reply-refused AirTemperature fs = refl
   reply-refused Burn fs = refl
   reply-refused (OfGas q) fs = quantity-refused q (fourOf fs)
+  reply-refused Walk fs = walk-of-refused (startOf (countAll 0 fs) (valuesOf fs)) (drop 4 (valuesOf fs))
   reply-refused Mark fs = refl
   reply-refused Unknown fs = refl
 
@@ -98,3 +117,9 @@ pub judged-once : (s line : List ℕ) (verdict : SheetAnswer) → paper verdict 
 unfolding answerOf
 judged-once s line Good e = refl
 judged-once s line (Refused r) e = ap (λ (t : List ℕ). t ++ (10 ∷ [])) (fields-refused s r e (fieldsOf line))
+
+-- and prints the walk that they would
+pub printed-once : (s : List ℕ) (ch : Charge) (mk : ℤ) (numbers : List ℤ) (verdict : SheetAnswer) → paper verdict ≡ judgeTold s
+    → printedWalk (walkTold verdict s ch mk numbers) ≡ printedWalk (walkTold Good s ch mk numbers)
+printed-once s ch mk numbers Good e = refl
+printed-once s ch mk numbers (Refused r) e = ap printedWalk (walk-refused s r e ch mk numbers)

@@ -1,7 +1,10 @@
 pub mod Requests
 pub mod Texts
 pub mod Marks
+pub mod Walks
+pub mod Shown
 pub mod Answers
 pub mod AnswersLaws
+pub mod WalksLaws
 pub mod JudgedLaws
 pub mod OneOutcome

@@ -8,8 +8,8 @@ use Rattle.fields.specs.declared.Four.the-variants.{Are, Not}
 use Rattle.sheet.specs.declared.SheetAnswer.{SheetAnswer}
 use Rattle.sheet.specs.declared.SheetAnswer.the-variants.{Good, Refused as SheetRefused}
 use Rattle.console.specs.declared.requests.Request.{Request}
-use Rattle.console.specs.declared.requests.Request.the-variants.{AirHeat, AirPsi, AirCp, AirTemperature, Burn, OfGas, Mark, Unknown}
-use Rattle.console.specs.declared.requests.Quantity.the-variants.{Heat, Content, Specific, Temperature}
+use Rattle.console.specs.declared.requests.Request.the-variants.{AirHeat, AirPsi, AirCp, AirTemperature, Burn, OfGas, Walk, Mark, Unknown}
+use Rattle.console.specs.declared.requests.Quantity.the-variants.{Heat, Content, Specific, Temperature, Station}
 use Rattle.console.specs.declared.requests.Asked.{Asked}
 use Rattle.console.specs.declared.requests.Asked.the-variants.{Of, Refused, Misfit}
 
@@ -56,6 +56,14 @@ specificContentWord = 115 ∷ 112 ∷ 101 ∷ 99 ∷ 105 ∷ 102 ∷ 105 ∷ 99 
 abbrev pub temperatureWord : List ℕ
 temperatureWord = 116 ∷ 101 ∷ 109 ∷ 112 ∷ 101 ∷ 114 ∷ 97 ∷ 116 ∷ 117 ∷ 114 ∷ 101 ∷ []
 
+-- station
+abbrev pub stationWord : List ℕ
+stationWord = 115 ∷ 116 ∷ 97 ∷ 116 ∷ 105 ∷ 111 ∷ 110 ∷ []
+
+-- walk
+abbrev pub walkWord : List ℕ
+walkWord = 119 ∷ 97 ∷ 108 ∷ 107 ∷ []
+
 -- mark
 abbrev pub markWord : List ℕ
 markWord = 109 ∷ 97 ∷ 114 ∷ 107 ∷ []
@@ -63,8 +71,10 @@ markWord = 109 ∷ 97 ∷ 114 ∷ 107 ∷ []
 -- the request of a word: on air, on a gas, on a page
 unfoldable pub otherRequest : List ℕ → Request
 otherRequest w =
-    cond (sameText w markWord) Mark
-    Unknown
+    cond (sameText w stationWord) (OfGas Station)
+    (cond (sameText w walkWord) Walk
+    (cond (sameText w markWord) Mark
+    Unknown))
 
 unfoldable pub gasRequest : List ℕ → Request
 gasRequest w =

@@ -72,6 +72,15 @@ valueText z = okText ++ (9 ∷ decimalZ z)
 abbrev pub wholeText : Told ℤ → List ℕ
 wholeText = toldText valueText
 
+-- a station's figures, whole numbers all: mK, specific content, total mass
+pub record Figures : Type 0 where
+  pub mk : ℤ
+  pub specific : ℤ
+  pub mass : ℤ
+
+abbrev pub figuresText : Figures → List ℕ
+figuresText f = ((okText ++ (9 ∷ decimalZ (f .mk))) ++ (9 ∷ decimalZ (f .specific))) ++ (9 ∷ decimalZ (f .mass))
+
 -- the products of a charge: CO2, H2O, O2, N2, Ar
 abbrev pub productsText : Products → List ℕ
 productsText p =

@@ -67,7 +67,7 @@ pub fn put_reading(reading: Reading, out: &mut [u8], at: usize) -> usize
 }
 
 // How many looks stand before the first unused place.
-fn count_looks(looks: &[u32]) -> usize
+pub(crate) fn count_looks(looks: &[u32]) -> usize
     ensures { λ r. ⌜ r ≡ length (used (now (looks .entry))) ⌝ }
 {
     let mut i = 0;

@@ -5,6 +5,7 @@ mod judged;
 mod marks;
 mod replies;
 mod requests;
+mod walks;
 
 use sheet::SheetAnswer;
 ghost use Rattle.text.specs.Put.{Put};

@@ -6,11 +6,13 @@ use crate::requests;
 use crate::requests::Asked;
 use crate::requests::Quantity;
 use crate::requests::Request;
+use crate::walks;
 use air::Millikelvin;
 use fields::Three;
 use gas::BurnAnswer;
 use gas::Charge;
 use gas::Heat;
+use gas::inner::Admitted;
 use sheet::SheetAnswer;
 use text::Whole;
 ghost use Rattle.text.specs.Put.{Put};
@@ -18,7 +20,7 @@ ghost use Rattle.sheet.specs.Sheet.{Accepted};
 ghost use Rattle.fields.specs.Fields.{fieldsFrom};
 ghost use Rattle.gas.specs.Answers.{paperBurn};
 ghost use Rattle.console.specs.Texts.{unknownText, misfitText, burntText};
-ghost use Rattle.console.specs.Answers.{Judged, Ready, airHeatText, airPsiText, airCpText, airTemperatureText, burnText, gasHeatText, contentText, specificText, temperatureText, quantityText, replyText};
+ghost use Rattle.console.specs.Answers.{Judged, Ready, airHeatText, airPsiText, airCpText, airTemperatureText, burnText, gasHeatText, contentText, specificText, temperatureText, stationText, quantityText, replyText};
 
 // No request begins with this word.
 fn put_unknown(out: &mut [u8], at: usize) -> usize
@@ -173,6 +175,36 @@ fn reply_temperature(asked: Asked, sheet: &[u32], out: &mut [u8], at: usize) -> 
     }
 }
 
+// The figures of a charge at a temperature, as whole numbers.
+fn ask_station(charge: Charge, mk: i64, sheet: &[u32], out: &mut [u8], at: usize) -> usize
+    requires { ⌜ Accepted (now sheet) ⌝ }
+    ensures { λ r. ⌜ Put (stationText (now (sheet .entry)) (Asked.Of charge mk)) (now (out .entry)) at r (now (out .exit)) ⌝ }
+{
+    match gas::inner::admit_at(charge, Millikelvin(mk)) {
+        Admitted::Burning(gas) => {
+            let air = rows::columns::heat_column();
+            let specific = gas::inner::specific_at(gas, Millikelvin(mk), sheet, &air);
+            let ok = text::put_text(b"ok", out, at);
+            let next = inner::put_signed(mk, out, ok);
+            let after = inner::put_signed(specific, out, next);
+            inner::put_number(gas::inner::total_mass(gas), out, after)
+        }
+        Admitted::Refused(refusal) => inner::put_refusal(refusal, out, at),
+    }
+}
+
+// station A c h mK
+fn reply_station(asked: Asked, sheet: &[u32], out: &mut [u8], at: usize) -> usize
+    requires { ⌜ Ready asked (now sheet) ⌝ }
+    ensures { λ r. ⌜ Put (stationText (now (sheet .entry)) asked) (now (out .entry)) at r (now (out .exit)) ⌝ }
+{
+    match asked {
+        Asked::Of(charge, mk) => ask_station(charge, mk, sheet, out, at),
+        Asked::Refused(refusal) => inner::put_refusal(refusal, out, at),
+        Asked::Misfit => put_misfit(out, at),
+    }
+}
+
 // What is asked of a gas.
 fn reply_quantity(
     quantity: Quantity,
@@ -189,6 +221,7 @@ fn reply_quantity(
         Quantity::Content => reply_content(asked, sheet, out, at),
         Quantity::Specific => reply_specific(asked, sheet, out, at),
         Quantity::Temperature => reply_temperature(asked, sheet, out, at),
+        Quantity::Station => reply_station(asked, sheet, out, at),
     }
 }
 
@@ -215,6 +248,7 @@ pub(crate) fn reply(
             let asked = requests::asked_of(fields::read_four(line, from), verdict);
             reply_quantity(quantity, asked, sheet, out, at)
         }
+        Request::Walk => walks::reply_walk(line, from, verdict, sheet, out, at),
         Request::Mark => marks::reply_mark(line, from, out, at),
         Request::Unknown => put_unknown(out, at),
     }

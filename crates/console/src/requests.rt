@@ -14,6 +14,7 @@ pub enum Request {
     AirTemperature,
     Burn,
     OfGas(Quantity),
+    Walk,
     Mark,
     Unknown,
 }
@@ -24,6 +25,7 @@ pub enum Quantity {
     Content,
     Specific,
     Temperature,
+    Station,
 }
 
 // The request that a word names.
@@ -71,6 +73,12 @@ fn gas_request(word: &[u8]) -> Request
 fn other_request(word: &[u8]) -> Request
     ensures { λ r. ⌜ r ≡ otherRequest (now (word .entry)) ⌝ }
 {
+    if check::same(word, b"station") {
+        return Request::OfGas(Quantity::Station);
+    }
+    if check::same(word, b"walk") {
+        return Request::Walk;
+    }
     if check::same(word, b"mark") {
         return Request::Mark;
     }

@@ -116,7 +116,7 @@ pub sets-next : (l : List ℕ) (p e n : ℕ) (z : ℤ) (list : List ℤ) → p �
 sets-next l p e n z list h q r = rw (add-one n, fields-at l p e h q, r) refl
 
 -- all numbers are counted
-count-is : (fs : List (List ℕ)) (n k : ℕ) → countAll n fs ≡ Count k → k ≡ n + length (valuesOf fs)
+pub count-is : (fs : List (List ℕ)) (n k : ℕ) → countAll n fs ≡ Count k → k ≡ n + length (valuesOf fs)
 count-is [] n k e = let q : n ≡ k = cc in omega arith
 count-is (f ∷ fs) n k e = go (wholeOf f) refl e (λ q. count-is fs (n + 1) k q)
   where

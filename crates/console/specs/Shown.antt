@@ -1,0 +1,46 @@
+-- What the lists that a walk wrote show, step by step, for the code that puts a walk: the text of its answer and its places. That this is the text of the walk
+-- (specs/Walks.antt) is the law `walk-shown`.
+use Prim.Native.Nat.{ℕ, zero, suc, _*_, _≤_, min}
+use mathlib.Core.List.{List, [], _∷_, _++_}
+use lib.IntN.{ℤ, pos}
+use lib.ListN.{length, take, drop, getD}
+use Rattle.fields.specs.declared.Numbers.{Numbers}
+use Rattle.fields.specs.declared.Numbers.the-variants.{Count, Bad}
+use Rattle.air.specs.Refusals.{Told, gives, refuses, refusesRow}
+use Rattle.walk.specs.Walk.{Trace, Course, done, stopped}
+use Rattle.console.specs.declared.walks.Layout.{Layout}
+use Rattle.console.specs.declared.walks.Layout.the-variants.{Line, Page}
+use Rattle.console.specs.Texts.{toldText, used}
+use Rattle.console.specs.Walks.{courseText, stepText, walkText, headerText, endText, printedWalk}
+
+-- how many steps were done
+abbrev pub stepsIn : Told Course → ℕ
+stepsIn (gives (done n ch mk)) = n
+stepsIn (gives (stopped n number ch mk)) = n
+stepsIn (refuses number) = 0
+stepsIn (refusesRow number row) = 0
+
+-- n steps from the first places of the lists, numbered from i on
+unfoldable pub shown : Layout → ℕ → ℕ → List ℤ → List ℤ → List ℕ → List ℕ
+shown layout i zero t r l = []
+shown layout i (suc n) t r l = stepText layout i (getD t 0 (pos 0)) (getD r 0 (pos 0)) (used (take 11 l)) ++ shown layout (suc i) n (drop 1 t) (drop 1 r) (drop 11 l)
+
+-- a walk from what it tells and the lists
+abbrev pub walkShown : Layout → Told Course → List ℤ → List ℤ → List ℕ → List ℕ
+walkShown Line told t r l = toldText courseText told ++ shown Line 1 (stepsIn told) t r l
+walkShown Page told t r l = (headerText ++ shown Page 1 (stepsIn told) t r l) ++ endText told
+
+abbrev pub layoutText : Layout → Told Trace → List ℕ
+layoutText Line told = walkText told
+layoutText Page told = printedWalk told
+
+-- the lists have places for n steps
+pub record Holds (n : ℕ) (t r : List ℤ) (l : List ℕ) : Type 0 where
+  pub temperatures : n ≤ length t
+  pub rests : n ≤ length r
+  pub looks : 11 * n ≤ length l
+
+-- how many numbers a list of so many places holds
+abbrev pub heldOf : Numbers → ℕ → ℕ
+heldOf (Count n) places = min n places
+heldOf Bad places = 0

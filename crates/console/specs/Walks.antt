@@ -1,0 +1,96 @@
+-- Walks as the console shows them. The answer to the request `walk A c h mK n1 n2 ..` (docs/PROGRAM.md) is one line: `ok`, the number of steps, A, c, h, mK, or `stopped`,
+-- the number of steps done, the refusal's number, A, c, h, mK; then mK, rest, number of looks and the looks of each step done. The printed walk (document 01, "Examples to hold
+-- against it") is a header, a line for each step done and, where the walk was refused, `refused` and the number.
+use Prim.Native.Nat.{ℕ, suc}
+use mathlib.Core.Bool.{cond}
+use mathlib.Core.List.{List, [], _∷_, _++_}
+use lib.Dec.{leb}
+use lib.IntN.{ℤ, pos}
+use lib.ListN.{length, drop, getD}
+use Rattle.text.specs.Decimal.{decimal, decimalZ}
+use Rattle.fields.specs.declared.Numbers.{Numbers}
+use Rattle.fields.specs.declared.Numbers.the-variants.{Count, Bad}
+use Rattle.fields.specs.declared.Four.{Four}
+use Rattle.fields.specs.declared.Four.the-variants.{Are, Not}
+use Rattle.fields.specs.Fields.{valuesOf, countAll}
+use Rattle.air.specs.Refusals.{Told, gives, refuses, refusesRow, refused}
+use Rattle.sheet.specs.Answers.{sheetLines}
+use Rattle.sheet.specs.declared.SheetAnswer.{SheetAnswer}
+use Rattle.sheet.specs.declared.SheetAnswer.the-variants.{Good, Refused}
+use Rattle.gas.specs.declared.Charge.{Charge}
+use Rattle.gas.specs.Burning.{document01}
+use Rattle.walk.specs.Step.{Out}
+use Rattle.walk.specs.Walk.{Trace, Course, done, stopped, walked, course, outsOf}
+use Rattle.console.specs.declared.walks.Layout.{Layout}
+use Rattle.console.specs.declared.walks.Layout.the-variants.{Line, Page}
+use Rattle.console.specs.Texts.{okText, refusedText, misfitText, toldText, countedText}
+
+-- a walk with lists for 64 steps, over a sheet list and the verdict that it was given when it was read
+abbrev pub walkTold : SheetAnswer → List ℕ → Charge → ℤ → List ℤ → Told Trace
+walkTold Good s ch mk numbers = walked (sheetLines s) document01 s ch mk numbers 64 64 704
+walkTold (Refused r) s ch mk numbers = refused r
+
+-- A, c, h, mK
+abbrev pub stateText : Charge → ℤ → List ℕ
+stateText ch mk = (((9 ∷ decimalZ (ch .air)) ++ (9 ∷ decimalZ (ch .carbon))) ++ (9 ∷ decimalZ (ch .hydrogen))) ++ (9 ∷ decimalZ mk)
+
+-- stopped
+abbrev pub stoppedText : List ℕ
+stoppedText = 115 ∷ 116 ∷ 111 ∷ 112 ∷ 112 ∷ 101 ∷ 100 ∷ []
+
+-- how a walk ended
+abbrev pub courseText : Course → List ℕ
+courseText (done n ch mk) = (okText ++ (9 ∷ decimal n)) ++ stateText ch mk
+courseText (stopped n number ch mk) = ((stoppedText ++ (9 ∷ decimal n)) ++ (9 ∷ decimal number)) ++ stateText ch mk
+
+-- a step in a line: mK, rest, number of looks, the looks
+abbrev pub inLine : ℤ → ℤ → List ℕ → List ℕ
+inLine mk rest ks = ((9 ∷ decimalZ mk) ++ (9 ∷ decimalZ rest)) ++ countedText ks
+
+-- a step on a page: its number, mK, rest, number of looks, and a line feed
+abbrev pub onPage : ℕ → ℤ → ℤ → List ℕ → List ℕ
+onPage i mk rest ks = (((decimal i ++ (9 ∷ decimalZ mk)) ++ (9 ∷ decimalZ rest)) ++ (9 ∷ decimal (length ks))) ++ (10 ∷ [])
+
+abbrev pub stepText : Layout → ℕ → ℤ → ℤ → List ℕ → List ℕ
+stepText Line i mk rest ks = inLine mk rest ks
+stepText Page i mk rest ks = onPage i mk rest ks
+
+-- the steps done, numbered from i on
+abbrev pub stepsText : Layout → ℕ → List Out → List ℕ
+stepsText layout i [] = []
+stepsText layout i (o ∷ os) = stepText layout i (pos (o .state .mk)) (o .rests) (o .seen) ++ stepsText layout (suc i) os
+
+-- the answer of a walk
+unfoldable pub walkText : Told Trace → List ℕ
+walkText told = toldText courseText (course told) ++ stepsText Line 1 (outsOf told)
+
+-- walk A c h mK n1 n2 ..: the first four numbers are the start, those after them the steps
+abbrev pub startOf : Numbers → List ℤ → Four
+startOf (Count n) zs = cond (leb 4 n) (Are (getD zs 0 (pos 0)) (getD zs 1 (pos 0)) (getD zs 2 (pos 0)) (getD zs 3 (pos 0))) Not
+startOf Bad zs = Not
+
+abbrev pub walkOf : SheetAnswer → List ℕ → Four → List ℤ → List ℕ
+walkOf verdict s (Are air carbon hydrogen mk) numbers = walkText (walkTold verdict s (record { air = air; carbon = carbon; hydrogen = hydrogen }) mk numbers)
+walkOf verdict s Not numbers = misfitText
+
+abbrev pub walkRequest : SheetAnswer → List ℕ → List (List ℕ) → List ℕ
+walkRequest verdict s fs = walkOf verdict s (startOf (countAll 0 fs) (valuesOf fs)) (drop 4 (valuesOf fs))
+
+-- ---- the printed walk
+-- step, mK, rest, looks, parted by tabs, and a line feed
+abbrev pub headerText : List ℕ
+headerText = 115 ∷ 116 ∷ 101 ∷ 112 ∷ 9 ∷ 109 ∷ 75 ∷ 9 ∷ 114 ∷ 101 ∷ 115 ∷ 116 ∷ 9 ∷ 108 ∷ 111 ∷ 111 ∷ 107 ∷ 115 ∷ 10 ∷ []
+
+-- refused, a tab, the number and a line feed
+abbrev pub refusedLine : ℕ → List ℕ
+refusedLine number = (refusedText ++ (9 ∷ decimal number)) ++ (10 ∷ [])
+
+-- what stands after the lines done
+abbrev pub endText : Told Course → List ℕ
+endText (gives (done n ch mk)) = []
+endText (gives (stopped n number ch mk)) = refusedLine number
+endText (refuses number) = refusedLine number
+endText (refusesRow number row) = refusedLine number
+
+unfoldable pub printedWalk : Told Trace → List ℕ
+printedWalk told = (headerText ++ stepsText Page 1 (outsOf told)) ++ endText (course told)

@@ -1,0 +1,255 @@
+-- A walk in its text: the lists that it wrote show its steps, and so many numbers as a line has are told as those that were kept. Assumes nothing.
+use Prim.Native.Nat.{ℕ, zero, suc, _+_, _-_, _*_, _/_, _%_, _≤_, _<_, min}
+use mathlib.Core.Path.{_≡_, refl, sym, _∙_, ap, ap₂}
+use mathlib.Core.Bool.{Bool, true, false, not, _||_, cond}
+use mathlib.Core.List.{List, [], _∷_, _++_, append-assoc, append-nil}
+use native.Mathlib.Omega.{arith}
+use native.Mathlib.Nat.{sub-zero, add-zero}
+use native.Mathlib.Decide.{decLe}
+use native.Mathlib.Numerals.{add-one}
+use borrow.Author.Tests.{lt-ltb, le-leb, lt-leb}
+use lib.IntN.{ℤ, pos}
+use lib.ListN.{length, take, drop, getD, set, length-append, length-take, length-drop, length-set, length-map}
+use lib.Seq.{sets, sets-eq, length-sets, take-at, drop-at, drop-append-le, getD-drop, drop-drop, getD-set-same, getD-set-other}
+use lib.Dec.{leb, eqb, lit<}
+use Rattle.text.specs.Put.{Put}
+use Rattle.text.specs.PutLaws.{put-none, put-then}
+use Rattle.fields.specs.declared.Numbers.{Numbers}
+use Rattle.fields.specs.declared.Numbers.the-variants.{Count, Bad}
+use Rattle.fields.specs.Fields.{valuesOf, countAll, Stored}
+use Rattle.fields.specs.FieldsLaws.{count-is}
+use Rattle.air.specs.Refusals.{Told, gives, refuses, refusesRow, refused, Line as Condition, condition, toldBy, first}
+use Rattle.air.specs.declared.Refusal.{Refusal}
+use Rattle.air.specs.declared.Refusal.the-variants.{Plain, AtRow}
+use Rattle.air.specs.RefusalsLaws.{gives-clear}
+use Rattle.air.specs.Halving.{eleven}
+use Rattle.air.specs.HalvingLaws.{length-eleven}
+use Rattle.air.specs.Inverse.{looks}
+use Rattle.air.specs.InverseLaws.{looks-most}
+use Rattle.sheet.specs.Sheet.{Accepted}
+use Rattle.sheet.specs.Answers.{sheetLines}
+use Rattle.sheet.specs.AnswersLaws.{past-sheet}
+use Rattle.sheet.specs.declared.SheetAnswer.{SheetAnswer}
+use Rattle.sheet.specs.declared.SheetAnswer.the-variants.{Good, Refused as SheetRefused}
+use Rattle.gas.specs.declared.Charge.{Charge}
+use Rattle.gas.specs.Burning.{Weights, document01}
+use Rattle.walk.specs.declared.Step.{Step}
+use Rattle.walk.specs.declared.WalkAnswer.{WalkAnswer}
+use Rattle.walk.specs.declared.WalkAnswer.the-variants.{Refused}
+use Rattle.walk.specs.Lists.{laid}
+use Rattle.walk.specs.Step.{State, Out}
+use Rattle.walk.specs.Walk.{Trace, End, ended, cut, run, width, stepsOf, wrongSteps, startLines, startState, walked, Course, courseOf, course, outsOf, temperaturesOf, restsOf, looksOf, paperWalk, Walks}
+use Rattle.walk.specs.RunLaws.{step-done, of-run}
+use Rattle.console.specs.declared.walks.Layout.{Layout}
+use Rattle.console.specs.declared.walks.Layout.the-variants.{Line, Page}
+use Rattle.console.specs.Texts.{misfitText, toldText, used}
+use Rattle.console.specs.Walks.{walkTold, courseText, stepText, stepsText, walkText, walkRequest, headerText, endText, printedWalk}
+use Rattle.console.specs.Shown.{stepsIn, shown, walkShown, layoutText, Holds, heldOf}
+use Rattle.console.specs.AnswersLaws.{used-eleven}
+
+-- ---- the loop over the steps
+module _ (layout : Layout) (n : ℕ) (t r : List ℤ) (l : List ℕ) where
+  -- the steps from index i on
+  abbrev left : ℕ → List ℕ
+  left i = shown layout (i + 1) (n - i) (drop i t) (drop i r) (drop (11 * i) l)
+
+  abbrev stepAt : ℕ → List ℕ
+  stepAt i = stepText layout (i + 1) (getD t i (pos 0)) (getD r i (pos 0)) (used (take 11 (drop (11 * i) l)))
+
+  left-next : (i : ℕ) → i < n → left i ≡ stepAt i ++ left (i + 1)
+  unfolding shown
+  left-next i h =
+      let e : n - i ≡ suc (n - (i + 1)) = omega arith in
+      let d : 11 * i + 11 ≡ 11 * (i + 1) = omega arith in
+      ap (λ (k : ℕ). shown layout (i + 1) k (drop i t) (drop i r) (drop (11 * i) l)) e ∙ rw (getD-drop i t 0 (pos 0), getD-drop i r 0 (pos 0), drop-drop 1 i t, drop-drop 1 i r, drop-drop 11 (11 * i) l, d) (simp (add-zero, add-one))
+
+  -- the first i steps were put
+  pub record Putting (before : List ℕ) (at next : ℕ) (now : List ℕ) (i : ℕ) : Type 0 where
+    pub text : List ℕ
+    pub within : i ≤ n
+    pub put : Put text before at next now
+    pub whole : text ++ left i ≡ shown layout 1 n t r l
+
+  pub none-put : (before : List ℕ) (at : ℕ) → at ≤ length before → Putting before at at before 0
+  none-put before at h = record {
+    text = [];
+    within = omega arith;
+    put = put-none before at h;
+    whole = ap (λ (k : ℕ). shown layout 1 k t r l) (sub-zero n);
+  }
+
+  module _ {before : List ℕ} {at next : ℕ} {now : List ℕ} {i : ℕ} (p : Putting before at next now i) where
+    pub one-more : {after : ℕ} {later : List ℕ} → i < n → Put (stepAt i) now next after later → Putting before at after later (i + 1)
+    one-more h q = record {
+      text = p .text ++ stepAt i;
+      within = omega arith;
+      put = put-then (p .put) q;
+      whole = append-assoc (p .text) (stepAt i) (left (i + 1)) ∙ ap (λ (x : List ℕ). p .text ++ x) (sym (left-next i h)) ∙ p .whole;
+    }
+
+    pub all-put : n ≤ i → Put (shown layout 1 n t r l) before at next now
+    unfolding shown
+    all-put h =
+        let e : n - i ≡ 0 = omega arith in
+        rw (← p .whole, e, append-nil) (p .put)
+
+-- ---- what the lists show
+-- each step's looks are those of a search
+pub data Searched : List Out → Type 0 where
+  none : Searched []
+  next : {o : Out} {os : List Out} (v : ℕ → ℤ) (target : ℤ) → o .seen ≡ looks v target → Searched os → Searched (o ∷ os)
+
+run-searched : (w : Weights) (s : List ℕ) (ps : List Step) (st : State) → Searched (run w s st ps .outs)
+run-searched w s = of-run w s (λ st ps tr. Searched (tr .outs)) (λ st. none) (λ st p ps n. none) (λ st p ps o e h. next _ _ (ap (λ (x : Out). x .seen) (step-done w s st p o e .out)) h)
+
+shown-outs : (layout : Layout) {os : List Out} → Searched os → (i : ℕ) (t r : List ℤ) (l : List ℕ)
+    → shown layout i (length os) (temperaturesOf os ++ t) (restsOf os ++ r) (looksOf os ++ l) ≡ stepsText layout i os
+unfolding shown
+shown-outs layout none i t r l = refl
+shown-outs layout (next {o} {os} v target e h) i t r l =
+    let x = eleven (o .seen) in
+    let z : length x ≡ 11 = rw e (length-eleven (looks v target) (looks-most v target)) in
+    let u : used x ≡ o .seen = rw e (used-eleven v target) in
+    let a : take 11 ((x ++ looksOf os) ++ l) ≡ x = rw (append-assoc x (looksOf os) l) (take-at x (looksOf os ++ l) 11 z) in
+    let b : drop 11 ((x ++ looksOf os) ++ l) ≡ looksOf os ++ l = rw (append-assoc x (looksOf os) l) (drop-at x (looksOf os ++ l) 11 z) in
+    ap₂ (λ (f g : List ℕ). stepText layout i (pos (o .state .mk)) (o .rests) (used f) ++ shown layout (suc i) (length os) (temperaturesOf os ++ t) (restsOf os ++ r) g) a b
+    ∙ ap₂ (λ (f g : List ℕ). stepText layout i (pos (o .state .mk)) (o .rests) f ++ g) u (shown-outs layout h (suc i) t r l)
+
+pub none-done : (r : Refusal) → 0 ≡ stepsIn (refused r)
+none-done (Plain number) = refl
+none-done (AtRow number row) = refl
+
+-- as many steps were done as there are outputs
+steps-in : (told : Told Trace) → stepsIn (course told) ≡ length (outsOf told)
+steps-in (gives tr) = go (length (tr .outs)) (tr .end)
+  where
+    go : (n : ℕ) (end : End) → stepsIn (gives (courseOf n end)) ≡ n
+    go n (ended st) = refl
+    go n (cut number st) = refl
+steps-in (refuses n) = refl
+steps-in (refusesRow n r) = refl
+
+first-searched : (lines : List Condition) (w : Weights) (s : List ℕ) (ps : List Step) (st : State) → Searched (outsOf (first lines (run w s st ps)))
+first-searched lines w s ps st = go (first lines (run w s st ps)) refl
+  where
+    go : (x : Told Trace) → first lines (run w s st ps) ≡ x → Searched (outsOf x)
+    go (gives tr) q = rw (← gives-clear lines q .1) (run-searched w s ps st)
+    go (refuses n) q = none
+    go (refusesRow n row) q = none
+
+pub walk-searched : (verdict : SheetAnswer) (s : List ℕ) (ch : Charge) (mk : ℤ) (numbers : List ℤ) → Searched (outsOf (walkTold verdict s ch mk numbers))
+unfolding walked
+walk-searched Good s ch mk numbers =
+    first-searched (sheetLines s ++ startLines document01 ch mk (length numbers) 64 64 704) document01 s (stepsOf (length numbers / width) numbers) (startState ch mk)
+walk-searched (SheetRefused (Plain n)) s ch mk numbers = none
+walk-searched (SheetRefused (AtRow n row)) s ch mk numbers = none
+
+-- the lists that a walk left hold its steps, and what they show is its text
+module _ {a : WalkAnswer} {t r t′ r′ : List ℤ} {l l′ : List ℕ} (told : Told Trace) (k : Walks told t r l a t′ r′ l′) where
+  -- a list that is as long as it was had a place for each output
+  room : (n : ℕ) (x y z : List ℤ) → length x ≡ n → y ≡ laid x z → length z ≡ length y → n ≤ length y
+  room n x y z ex ey ez = omega (arith, ap length ey, length-append x (drop (length x) z), length-drop (length x) z)
+
+  pub holds : length t ≡ length t′ → length r ≡ length r′ → 11 * length t′ ≤ length l′ → Holds (stepsIn (paperWalk a)) t′ r′ l′
+  holds et er el =
+      let os = outsOf told in
+      let n : length os ≡ stepsIn (paperWalk a) = sym (ap stepsIn (k .answer) ∙ steps-in told) in
+      let ft : stepsIn (paperWalk a) ≤ length t′ = room (stepsIn (paperWalk a)) (temperaturesOf os) t′ t (length-map os (λ (o : Out). pos (o .state .mk)) ∙ n) (k .temperatures) et in
+      let fr : stepsIn (paperWalk a) ≤ length r′ = room (stepsIn (paperWalk a)) (restsOf os) r′ r (length-map os (λ (o : Out). o .rests) ∙ n) (k .rests) er in
+      record { temperatures = ft; rests = fr; looks = omega arith }
+
+  steps-shown : Searched (outsOf told) → (layout : Layout) → shown layout 1 (stepsIn (paperWalk a)) t′ r′ l′ ≡ stepsText layout 1 (outsOf told)
+  steps-shown searched layout =
+      let os = outsOf told in
+      rw (k .answer, k .temperatures, k .rests, k .looks, steps-in told)
+      (shown-outs layout searched 1 (drop (length (temperaturesOf os)) t) (drop (length (restsOf os)) r) (drop (length (looksOf os)) l))
+
+  pub walk-shown : Searched (outsOf told) → (layout : Layout) → walkShown layout (paperWalk a) t′ r′ l′ ≡ layoutText layout told
+  unfolding walkText printedWalk
+  walk-shown searched Line = ap₂ (λ (x : Told Course) (y : List ℕ). toldText courseText x ++ y) (k .answer) (steps-shown searched Line)
+  walk-shown searched Page = ap₂ (λ (x : List ℕ) (y : Told Course). (headerText ++ x) ++ endText y) (steps-shown searched Page) (k .answer)
+
+-- ---- over a sheet that was judged
+pub walks-accepted : {s : List ℕ} (ch : Charge) (mk : ℤ) (numbers : List ℤ) → Accepted s → walked [] document01 s ch mk numbers 64 64 704 ≡ walkTold Good s ch mk numbers
+unfolding walked
+walks-accepted {s} ch mk numbers ok =
+    sym (past-sheet (startLines document01 ch mk (length numbers) 64 64 704) (run document01 s (startState ch mk) (stepsOf (length numbers / width) numbers)) ok)
+
+pub walks-refused : (x : Refusal) (t r : List ℤ) (l : List ℕ) → Walks (refused x) t r l (Refused x) t r l
+walks-refused (Plain number) t r l = record { answer = refl; temperatures = refl; rests = refl; looks = refl }
+walks-refused (AtRow number row) t r l = record { answer = refl; temperatures = refl; rests = refl; looks = refl }
+
+-- ---- the numbers of a line
+module _ (d : ℤ) where
+  kept-before : (xs l : List ℤ) (at i : ℕ) → i < at → getD (sets l at xs) i d ≡ getD l i d
+  kept-before [] l at i h = refl
+  kept-before (x ∷ xs) l at i h = kept-before xs (set l at x) (suc at) i (omega arith) ∙ getD-set-other l at i x d (λ e. omega arith)
+
+  kept-at : (xs l : List ℤ) (at i : ℕ) → i < length xs → at + i < length l → getD (sets l at xs) (at + i) d ≡ getD xs i d
+  kept-at [] l at i h k = absurd (omega arith)
+  kept-at (x ∷ xs) l at zero h k =
+      let e : at + 0 ≡ at = omega arith in rw e (kept-before xs (set l at x) (suc at) at (omega arith) ∙ getD-set-same l at x d (omega arith))
+  kept-at (x ∷ xs) l at (suc i) h k =
+      let e : at + suc i ≡ suc at + i = omega arith in rw e (kept-at xs (set l at x) (suc at) i (omega arith) (omega (arith, length-set l at x)))
+
+  kept-first : (xs l : List ℤ) (i : ℕ) → i < length xs → i < length l → getD (sets l 0 xs) i d ≡ getD xs i d
+  kept-first xs l i h k = let e : 0 + i ≡ i = omega arith in rw e at (kept-at xs l 0 i h (omega arith))
+
+first-same : {A : Type 0} (ls ms ns : List Condition) (a b : A) → first ms a ≡ first ns b → first (ls ++ ms) a ≡ first (ls ++ ns) b
+first-same [] ms ns a b e = e
+first-same {A} (l ∷ ls) ms ns a b e = ap (λ (x : Told A). cond (condition l) (toldBy l) x) (first-same ls ms ns a b e)
+
+-- more than 256 numbers are refused with 13, whatever they are
+module _ (lines : List Condition) (w : Weights) (s : List ℕ) (ch : Charge) (mk : ℤ) (a b c : ℕ) where
+  wrong-many : (n : ℕ) → 256 < n → wrongSteps n ≡ true
+  wrong-many n h = rw (lt-ltb 256 n h) (or-true (not (eqb (n % 4) 0)))
+    where
+      or-true : (x : Bool) → x || true ≡ true
+      or-true true = refl
+      or-true false = refl
+
+  refused-many : {A : Type 0} (n : ℕ) (v : A) → 256 < n → first (startLines w ch mk n a b c) v ≡ refuses 13
+  refused-many n v h = rw (wrong-many n h) refl
+
+  many-alike : (xs ys : List ℤ) → 256 < length xs → 256 < length ys → walked lines w s ch mk xs a b c ≡ walked lines w s ch mk ys a b c
+  unfolding walked
+  many-alike xs ys hx hy =
+      first-same lines (startLines w ch mk (length xs) a b c) (startLines w ch mk (length ys) a b c) _ _
+      (refused-many (length xs) _ hx ∙ sym (refused-many (length ys) _ hy))
+
+pub held-most : (numbers : Numbers) (places : ℕ) → heldOf numbers places ≤ places
+held-most (Count n) places = omega arith
+held-most Bad places = omega arith
+
+module _ (verdict : SheetAnswer) (s : List ℕ) (fs : List (List ℕ)) (before later : List ℤ) (long : length before ≡ 261) where
+  steps-alike : (ch : Charge) (mk : ℤ) (k : ℕ) → k ≡ length (valuesOf fs) → 4 ≤ k → later ≡ sets before 0 (valuesOf fs)
+      → walkTold verdict s ch mk (take (min k 261 - 4) (drop 4 later)) ≡ walkTold verdict s ch mk (drop 4 (valuesOf fs))
+  steps-alike ch mk k e h q = go (decLe k 261)
+    where
+      told-alike : (v : SheetAnswer) → 256 < length (take (min k 261 - 4) (drop 4 later)) → 256 < length (drop 4 (valuesOf fs))
+          → walkTold v s ch mk (take (min k 261 - 4) (drop 4 later)) ≡ walkTold v s ch mk (drop 4 (valuesOf fs))
+      told-alike Good x y = many-alike (sheetLines s) document01 s ch mk 64 64 704 _ _ x y
+      told-alike (SheetRefused r) x y = refl
+
+      go : Dec (k ≤ 261) → walkTold verdict s ch mk (take (min k 261 - 4) (drop 4 later)) ≡ walkTold verdict s ch mk (drop 4 (valuesOf fs))
+      go (yes g) =
+          let n : length (drop 4 (valuesOf fs)) ≡ min k 261 - 4 = omega (arith, length-drop 4 (valuesOf fs)) in
+          ap (walkTold verdict s ch mk)
+          (rw (q, sets-eq (valuesOf fs) before 0 (omega arith), drop-append-le 4 (valuesOf fs) (drop (0 + length (valuesOf fs)) before) (omega arith))
+          (take-at (drop 4 (valuesOf fs)) (drop (0 + length (valuesOf fs)) before) (min k 261 - 4) n))
+      go (no g) =
+          told-alike verdict
+          (omega (arith, length-take (min k 261 - 4) (drop 4 later), length-drop 4 later, ap length q, length-sets before 0 (valuesOf fs)))
+          (omega (arith, length-drop 4 (valuesOf fs)))
+
+  pub walk-kept : (numbers : Numbers) (n : ℕ) → numbers ≡ countAll 0 fs → Stored fs before numbers later → n ≡ heldOf numbers 261 → 4 ≤ n
+      → walkText (walkTold verdict s (record { air = getD later 0 (pos 0); carbon = getD later 1 (pos 0); hydrogen = getD later 2 (pos 0) }) (getD later 3 (pos 0)) (take (n - 4) (drop 4 later))) ≡ walkRequest verdict s fs
+  walk-kept (Count k) n e st en h =
+      let c : k ≡ 0 + length (valuesOf fs) = count-is fs 0 k (sym e) in
+      let g : (i : ℕ) → i < 4 → getD later i (pos 0) ≡ getD (valuesOf fs) i (pos 0) = λ i l. ap (λ (x : List ℤ). getD x i (pos 0)) st ∙ kept-first (pos 0) (valuesOf fs) before i (omega arith) (omega arith) in
+      rw (← e, le-leb 4 k (omega arith), en, g 0 (lit< tt), g 1 (lit< tt), g 2 (lit< tt), g 3 (lit< tt)) (ap walkText (steps-alike _ _ k (omega arith) (omega arith) st))
+  walk-kept Bad n e st en h = absurd (omega arith)
+
+  pub walk-misfit : (numbers : Numbers) (n : ℕ) → numbers ≡ countAll 0 fs → n ≡ heldOf numbers 261 → n < 4 → misfitText ≡ walkRequest verdict s fs
+  walk-misfit (Count k) n e en h = rw (← e, lt-leb 4 k (omega arith)) refl
+  walk-misfit Bad n e en h = rw (← e) refl

@@ -1,0 +1,303 @@
+// Walks as the console shows them: in a line, as the answer to a request, or on a page, as document 01 prints one (specs/Walks.antt). One loop puts the steps of both.
+use crate::inner;
+use crate::replies;
+use air::Millikelvin;
+use air::Refusal;
+use fields::Numbers;
+use gas::Charge;
+use sheet::SheetAnswer;
+use walk::WalkAnswer;
+ghost use mathlib.Core.Path.{_≡_};
+ghost use Prim.Native.Nat.{_≤_};
+ghost use lib.ListN.{length};
+ghost use Rattle.text.specs.Put.{Put};
+ghost use Rattle.fields.specs.Fields.{fieldsFrom};
+ghost use Rattle.walk.specs.Walk.{paperWalk, Walks};
+ghost use Rattle.console.specs.Texts.{toldText, used};
+ghost use Rattle.console.specs.Walks.{walkTold, stateText, courseText, inLine, onPage, stepText, refusedLine, endText, walkRequest};
+ghost use Rattle.console.specs.Shown.{stepsIn, shown, walkShown, layoutText, heldOf, Holds};
+ghost use Rattle.console.specs.Answers.{Judged};
+
+// How a walk is shown: in one line, or on a page with a line for each step.
+pub enum Layout {
+    Line,
+    Page,
+}
+
+// A, c, h and mK.
+fn put_state(charge: Charge, t: Millikelvin, out: &mut [u8], at: usize) -> usize
+    ensures { λ r. ⌜ Put (stateText charge (t .0)) (now (out .entry)) at r (now (out .exit)) ⌝ }
+{
+    let air = inner::put_signed(charge.air, out, at);
+    let carbon = inner::put_signed(charge.carbon, out, air);
+    let hydrogen = inner::put_signed(charge.hydrogen, out, carbon);
+    inner::put_signed(t.0, out, hydrogen)
+}
+
+// How a walk ended.
+fn put_course(answer: WalkAnswer, out: &mut [u8], at: usize) -> usize
+    ensures { λ r. ⌜ Put (toldText courseText (paperWalk answer)) (now (out .entry)) at r (now (out .exit)) ⌝ }
+{
+    match answer {
+        WalkAnswer::Done(n, charge, t) => {
+            let ok = text::put_text(b"ok", out, at);
+            let steps = inner::put_number(n as u64, out, ok);
+            put_state(charge, t, out, steps)
+        }
+        WalkAnswer::Stopped(n, number, charge, t) => {
+            let stopped = text::put_text(b"stopped", out, at);
+            let steps = inner::put_number(n as u64, out, stopped);
+            let refusal = inner::put_number(number as u64, out, steps);
+            put_state(charge, t, out, refusal)
+        }
+        WalkAnswer::Refused(refusal) => inner::put_refusal(refusal, out, at),
+    }
+}
+
+// How many steps were done.
+fn steps_done(answer: WalkAnswer) -> usize
+    ensures { λ r. ⌜ r ≡ stepsIn (paperWalk answer) ⌝ }
+{
+    match answer {
+        WalkAnswer::Done(n, _, _) => n as usize,
+        WalkAnswer::Stopped(n, _, _, _) => n as usize,
+        WalkAnswer::Refused(_) => 0,
+    }
+}
+
+// A step in a line: mK, rest, the number of looks that its places hold, the looks.
+fn put_in_line(mk: i64, rest: i64, looks: &[u32], out: &mut [u8], at: usize) -> usize
+    ensures { λ r. ⌜ Put (inLine mk rest (used (now (looks .entry)))) (now (out .entry)) at r (now (out .exit)) ⌝ }
+{
+    let next = inner::put_signed(mk, out, at);
+    let after = inner::put_signed(rest, out, next);
+    inner::put_looks(looks, out, after)
+}
+
+// A step on a page: its number, mK, rest and the number of looks that its places hold.
+fn put_on_page(number: usize, mk: i64, rest: i64, looks: &[u32], out: &mut [u8], at: usize) -> usize
+    ensures { λ r. ⌜ Put (onPage number mk rest (used (now (looks .entry)))) (now (out .entry)) at r (now (out .exit)) ⌝ }
+{
+    let start = text::put_decimal(number as u64, out, at);
+    let next = inner::put_signed(mk, out, start);
+    let after = inner::put_signed(rest, out, next);
+    let last = inner::put_number(inner::count_looks(looks) as u64, out, after);
+    text::put_byte(10, out, last)
+}
+
+// A step as the layout has it.
+fn put_step(
+    layout: Layout,
+    number: usize,
+    mk: i64,
+    rest: i64,
+    looks: &[u32],
+    out: &mut [u8],
+    at: usize,
+) -> usize
+    ensures { λ r. ⌜ Put (stepText layout number mk rest (used (now (looks .entry)))) (now (out .entry)) at r (now (out .exit)) ⌝ }
+{
+    match layout {
+        Layout::Line => put_in_line(mk, rest, looks, out, at),
+        Layout::Page => put_on_page(number, mk, rest, looks, out, at),
+    }
+}
+
+// The first n steps from the places of the lists.
+fn put_steps(
+    layout: Layout,
+    n: usize,
+    temperatures: &[i64],
+    rests: &[i64],
+    looks: &[u32],
+    out: &mut [u8],
+    at: usize,
+) -> usize
+    requires { ⌜ Holds n (now temperatures) (now rests) (now looks) × (at ≤ length (now out)) ⌝ }
+    ensures { λ r. ⌜ Put (shown layout 1 n (now (temperatures .entry)) (now (rests .entry)) (now (looks .entry))) (now (out .entry)) at r (now (out .exit)) ⌝ }
+{
+    let mut next = at;
+    let mut i: usize = 0;
+    while i < n {
+        let from = 11 * i;
+        let end = from + 11;
+        next = put_step(
+            layout,
+            i + 1,
+            temperatures[i],
+            rests[i],
+            &looks[from..end],
+            out,
+            next,
+        );
+        i += 1;
+    }
+    next
+}
+
+// `refused` and the number, in a line of their own.
+fn put_refused(number: u32, out: &mut [u8], at: usize) -> usize
+    ensures { λ r. ⌜ Put (refusedLine number) (now (out .entry)) at r (now (out .exit)) ⌝ }
+{
+    let word = text::put_text(b"refused", out, at);
+    let next = inner::put_number(number as u64, out, word);
+    text::put_byte(10, out, next)
+}
+
+// What stands on a page after the lines of the steps done.
+fn put_end(answer: WalkAnswer, out: &mut [u8], at: usize) -> usize
+    requires { ⌜ at ≤ length (now out) ⌝ }
+    ensures { λ r. ⌜ Put (endText (paperWalk answer)) (now (out .entry)) at r (now (out .exit)) ⌝ }
+{
+    match answer {
+        WalkAnswer::Done(_, _, _) => at,
+        WalkAnswer::Stopped(_, number, _, _) => put_refused(number, out, at),
+        WalkAnswer::Refused(refusal) => match refusal {
+            Refusal::Plain(number) => put_refused(number, out, at),
+            Refusal::AtRow(number, _) => put_refused(number, out, at),
+        },
+    }
+}
+
+// A walk in a line, from its answer and the lists that it wrote.
+fn put_line(
+    answer: WalkAnswer,
+    temperatures: &[i64],
+    rests: &[i64],
+    looks: &[u32],
+    out: &mut [u8],
+    at: usize,
+) -> usize
+    requires { ⌜ Holds (stepsIn (paperWalk answer)) (now temperatures) (now rests) (now looks) ⌝ }
+    ensures { λ r. ⌜ Put (walkShown Layout.Line (paperWalk answer) (now (temperatures .entry)) (now (rests .entry)) (now (looks .entry))) (now (out .entry)) at r (now (out .exit)) ⌝ }
+{
+    let next = put_course(answer, out, at);
+    let n = steps_done(answer);
+    put_steps(Layout::Line, n, temperatures, rests, looks, out, next)
+}
+
+// A walk on a page.
+fn put_page(
+    answer: WalkAnswer,
+    temperatures: &[i64],
+    rests: &[i64],
+    looks: &[u32],
+    out: &mut [u8],
+    at: usize,
+) -> usize
+    requires { ⌜ Holds (stepsIn (paperWalk answer)) (now temperatures) (now rests) (now looks) ⌝ }
+    ensures { λ r. ⌜ Put (walkShown Layout.Page (paperWalk answer) (now (temperatures .entry)) (now (rests .entry)) (now (looks .entry))) (now (out .entry)) at r (now (out .exit)) ⌝ }
+{
+    let next = text::put_text(b"step\tmK\trest\tlooks\n", out, at);
+    let n = steps_done(answer);
+    let after = put_steps(Layout::Page, n, temperatures, rests, looks, out, next);
+    put_end(answer, out, after)
+}
+
+// A walk as the layout has it.
+fn put_walk(
+    layout: Layout,
+    answer: WalkAnswer,
+    temperatures: &[i64],
+    rests: &[i64],
+    looks: &[u32],
+    out: &mut [u8],
+    at: usize,
+) -> usize
+    requires { ⌜ Holds (stepsIn (paperWalk answer)) (now temperatures) (now rests) (now looks) ⌝ }
+    ensures { λ r. ⌜ Put (walkShown layout (paperWalk answer) (now (temperatures .entry)) (now (rests .entry)) (now (looks .entry))) (now (out .entry)) at r (now (out .exit)) ⌝ }
+{
+    match layout {
+        Layout::Line => put_line(answer, temperatures, rests, looks, out, at),
+        Layout::Page => put_page(answer, temperatures, rests, looks, out, at),
+    }
+}
+
+// A walk over a sheet that was judged when it was read: with its refusal, where it was refused.
+fn walk_held(
+    charge: Charge,
+    t: Millikelvin,
+    steps: &[i64],
+    temperatures: &mut [i64],
+    rests: &mut [i64],
+    looks: &mut [u32],
+    verdict: SheetAnswer,
+    sheet: &[u32],
+) -> WalkAnswer
+    requires { ⌜ Judged verdict (now sheet) × (length (now temperatures) ≡ 64) × (length (now rests) ≡ 64) × (length (now looks) ≡ 704) ⌝ }
+    ensures { λ r. ⌜ Walks (walkTold verdict (now (sheet .entry)) charge (t .0) (now (steps .entry))) (now (temperatures .entry)) (now (rests .entry)) (now (looks .entry)) r (now (temperatures .exit)) (now (rests .exit)) (now (looks .exit)) ⌝ }
+{
+    match verdict {
+        SheetAnswer::Good => {
+            let air = rows::columns::heat_column();
+            walk::inner::walk_judged(charge, t, steps, temperatures, rests, looks, sheet, &air)
+        }
+        SheetAnswer::Refused(refusal) => WalkAnswer::Refused(refusal),
+    }
+}
+
+// A walk with lists for 64 steps, as the layout has it.
+pub(crate) fn show(
+    layout: Layout,
+    charge: Charge,
+    t: Millikelvin,
+    steps: &[i64],
+    verdict: SheetAnswer,
+    sheet: &[u32],
+    out: &mut [u8],
+    at: usize,
+) -> usize
+    requires { ⌜ Judged verdict (now sheet) ⌝ }
+    ensures { λ r. ⌜ Put (layoutText layout (walkTold verdict (now (sheet .entry)) charge (t .0) (now (steps .entry)))) (now (out .entry)) at r (now (out .exit)) ⌝ }
+{
+    let mut temperatures = [0i64; 64];
+    let mut rests = [0i64; 64];
+    let mut looks = [0u32; 704];
+    let answer = walk_held(
+        charge,
+        t,
+        steps,
+        &mut temperatures,
+        &mut rests,
+        &mut looks,
+        verdict,
+        sheet,
+    );
+    put_walk(layout, answer, &temperatures, &rests, &looks, out, at)
+}
+
+// How many numbers of a line a list of so many places holds; none where a field is no number.
+fn held_of(numbers: Numbers, places: usize) -> usize
+    ensures { λ r. ⌜ r ≡ heldOf numbers places ⌝ }
+{
+    match numbers {
+        Numbers::Count(n) => { if n < places { n } else { places } }
+        Numbers::Bad => 0,
+    }
+}
+
+// walk A c h mK n1 n2 .. The list has a place more than a start and the steps of the longest walk: where it is full, there are too many.
+pub(crate) fn reply_walk(
+    line: &[u8],
+    from: usize,
+    verdict: SheetAnswer,
+    sheet: &[u32],
+    out: &mut [u8],
+    at: usize,
+) -> usize
+    requires { ⌜ Judged verdict (now sheet) ⌝ }
+    ensures { λ r. ⌜ Put (walkRequest verdict (now (sheet .entry)) (fieldsFrom (now (line .entry)) from)) (now (out .entry)) at r (now (out .exit)) ⌝ }
+{
+    let mut list = [0i64; 261];
+    let n = held_of(fields::read_numbers(line, from, &mut list), 261);
+    if n < 4 {
+        return replies::put_misfit(out, at);
+    }
+    let start = Charge {
+        air: list[0],
+        carbon: list[1],
+        hydrogen: list[2],
+    };
+    let t = Millikelvin(list[3]);
+    show(Layout::Line, start, t, &list[4..n], verdict, sheet, out, at)
+}
