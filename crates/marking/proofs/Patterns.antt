@@ -1,14 +1,13 @@
 -- The three fields of a binary64 pattern, by shifts and masks, and the number that they stand for. Assumes nothing.
-use mathlib.Core.Path.{_≡_, refl, sym, ap, _∙_, subst}
-use mathlib.Core.Bool.{Bool, true, false, not, cond, true≢false}
+use mathlib.Core.Path.{_≡_, refl, sym, _∙_}
+use mathlib.Core.Bool.{Bool, true, false, cond}
 use Prim.Native.Nat.{ℕ, zero, suc, _+_, _-_, _/_, _%_, _^_, _≤_, _<_}
 use native.Mathlib.Omega.{arith}
 use lib.Dec.{T, leb, eqb, leb→le, le→leb, eqb→eq, not-T}
 use lib.Pow.{field}
 use lib.Bits.{bitAnd, and-mask, mask-lt}
-use lib.Ieee.{Float, nan, inf, fin, binary64, odd, fits, isNan, ofFields, ofBits, toBits, ne}
+use lib.Ieee.{Float, nan, inf, fin, binary64, odd, fits, ofFields, ofBits, toBits}
 use lib.Ieee.Scale.{finite}
-use lib.Ieee.Compare.{nan-differs, differs-from-itself}
 use lib.Ieee.Fits.{eq→eqb}
 use lib.Ieee.Bits.{ofBits-toBits, toBits-lt, cond-no}
 use lib.Ieee.Exact.{HasValue, odd-sign}
@@ -72,13 +71,3 @@ top-none s f = go (eqb f 0)
     go : (b : Bool) → finite (cond b (inf s) nan) ≡ false
     go true = refl
     go false = refl
-
--- ---- a NaN alone differs from itself
-pub nan-none : (x : Float) → ne x x ≡ true → finite x ≡ false
-nan-none x e = ap finite (differs-from-itself x (subst T (sym e) tt))
-
-pub no-nan : (x : Float) → ne x x ≡ false → T (not (isNan x))
-unfolding isNan
-no-nan nan e = absurd (true≢false (sym nan-differs ∙ e))
-no-nan (inf s) e = tt
-no-nan (fin s m e) h = tt

@@ -107,7 +107,7 @@ struct Block {
 }
 
 // The next target of a block: as made, all targets stay far inside 64 bits.
-fn further(target: i64, apart: i64) -> i64 {
+pub(crate) fn further(target: i64, apart: i64) -> i64 {
     if !signed::inside(
         target,
         -4_000_000_000_000_000_000,

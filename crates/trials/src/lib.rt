@@ -1,10 +1,12 @@
 // The trials: requests in, answers out, for the programs that are run against the second implementation. Beside the requests of the console there are further
-// forms (second/README.md): lent lists with a pattern and their sums, sheets and texts made from base lists and edits, blocks of inverses. These functions
+// forms (second/README.md): lent lists with a pattern and their sums, sheets and texts made from base lists and edits, blocks of inverses and of marks. These functions
 // promise that they are safe and end; what they call is promised below.
 mod air_forms;
 mod inverses;
 mod lists;
+mod mark_forms;
 mod sheet_forms;
+mod walk_forms;
 
 use fields::Numbers;
 use inverses::Inverse;
@@ -121,6 +123,10 @@ enum Form {
     Text,
     TemperatureInto,
     Temperatures,
+    WalkInto,
+    Figures,
+    Differences,
+    Grid,
 }
 
 // What a line asks: another sheet, a further form, or a request of the console.
@@ -161,6 +167,23 @@ fn gas_asked_by(word: &[u8]) -> Asked {
     if check::same(word, b"temperatures") {
         return Asked::Form(Form::Temperatures);
     }
+    if check::same(word, b"walk-into") {
+        return Asked::Form(Form::WalkInto);
+    }
+    marks_asked_by(word)
+}
+
+// The form about figures and marks that a word names.
+fn marks_asked_by(word: &[u8]) -> Asked {
+    if check::same(word, b"figures") {
+        return Asked::Form(Form::Figures);
+    }
+    if check::same(word, b"differences") {
+        return Asked::Form(Form::Differences);
+    }
+    if check::same(word, b"grid") {
+        return Asked::Form(Form::Grid);
+    }
     Asked::Request
 }
 
@@ -187,6 +210,10 @@ fn put_form(form: Form, numbers: &[i64], sheet: &[u32], out: &mut [u8], at: usiz
             let charge = inverses::charge_at(numbers, 0);
             inverses::put_block(Inverse::Gas(charge), numbers, 3, sheet, out, at)
         }
+        Form::WalkInto => walk_forms::put_walk_into(numbers, sheet, out, at),
+        Form::Figures => mark_forms::put_figures(numbers, sheet, out, at),
+        Form::Differences => mark_forms::put_differences(numbers, sheet, out, at),
+        Form::Grid => mark_forms::put_grid(numbers, out, at),
     }
 }
 

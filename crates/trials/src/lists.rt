@@ -66,6 +66,26 @@ pub(crate) fn fill_pattern(list: &mut [u32]) {
     }
 }
 
+// The same in a list of signed numbers.
+pub(crate) fn fill_numbers(list: &mut [i64]) {
+    let mut i = 0;
+    while i < list.len() {
+        list[i] = signed::of_u64(7_000_000 + (i % 100_000) as u64);
+        i += 1;
+    }
+}
+
+// The sum of a list of signed numbers, of which none is negative.
+pub(crate) fn sum_numbers(list: &[i64]) -> u64 {
+    let mut s = 0;
+    let mut i = 0;
+    while i < list.len() {
+        s = take_on(s, text::size(list[i]));
+        i += 1;
+    }
+    s
+}
+
 // Writes a value at a place, where there is one.
 fn store(list: &mut [u32], i: usize, value: u32) {
     if i < list.len() {

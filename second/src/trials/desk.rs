@@ -1,8 +1,10 @@
 //! The desk: it answers every request line of the trials. Those of `keys ask` go to `answer`; the
 //! others (README.md, "Further forms") lend lists, ask in blocks, or give bit patterns.
 
+use std::ops::Range;
+
 use crate::air;
-use crate::answer::{answer, charge, fields, float, found, numbers, say, say_outcome, say_refused};
+use crate::answer::{answer, charge, fields, found, numbers, say, say_outcome, say_refused};
 use crate::gas;
 use crate::inverse::{Found, PLACES};
 use crate::marking::{difference, mark, station, Station, Typed};
@@ -24,9 +26,6 @@ impl Desk {
     /// The answer to a request line; neither has a line feed.
     pub fn reply(&mut self, line: &str) -> String {
         let words: Vec<&str> = line.split('\t').collect();
-        if words[0] == "grid" {
-            return grid(&words[1..]);
-        }
         let numbers = numbers(&words[1..]).unwrap_or_default();
         if let ("sheet", [base, length, edits @ ..]) = (words[0], &numbers[..]) {
             self.sheet = edited_list(*base, *length, edits);
@@ -69,6 +68,9 @@ impl Desk {
                 let one = station(&charge(a, c, h), *mk, sheet);
                 let other = station(&charge(a2, c2, h2), *mk2, sheet);
                 figures(one.and_then(|one| other.map(|other| differences(&one, &other))))
+            }
+            ("grid", [kind, high, low, floats, key, keys, window]) => {
+                grid(*kind, (high << 32 | low) as u64, *floats, *key..key + keys, *window)
             }
             _ => return None,
         };
@@ -143,17 +145,9 @@ fn walk_into(lengths: [i64; 3], start: State, sheet: &[u32], steps: &[i64]) -> S
 /// The bit patterns of a station figure.
 fn figures(of: Result<Station, Refusal>) -> String {
     match of {
-        Ok(of) => {
-            let bits = [of.mk, of.specific_content, of.total_mass].map(hexadecimal);
-            fields("ok", &bits)
-        }
+        Ok(of) => fields("ok", &[of.mk, of.specific_content, of.total_mass].map(f64::to_bits)),
         Err(refusal) => say_refused(&refusal),
     }
-}
-
-/// `x` and the 16 hexadecimal digits of a float's bits.
-pub fn hexadecimal(x: f64) -> String {
-    format!("x{:016x}", x.to_bits())
 }
 
 fn differences(one: &Station, other: &Station) -> Station {
@@ -166,20 +160,15 @@ fn differences(one: &Station, other: &Station) -> Station {
 
 /// Marks of every float of a run of bit patterns with every key of a run: how many count, miss and
 /// are refused, and the sum, 1, 0 or the refusal's number a mark, all keys of a float in turn.
-fn grid(words: &[&str]) -> String {
-    let [kind, x, numbers_of @ ..] = words else { panic!("a grid has a kind and a float") };
-    let first = float(x).expect("a float's bits").to_bits();
-    let [floats, key, keys, window] = numbers(numbers_of).expect("four numbers")[..] else {
-        panic!("a grid has four numbers")
-    };
-    let typed = |bits: u64| match *kind {
-        "kelvins" => Typed::Kelvins(f64::from_bits(bits)),
-        "content" => Typed::Content(f64::from_bits(bits)),
+fn grid(kind: i64, first: u64, floats: i64, keys: Range<i64>, window: i64) -> String {
+    let typed = |bits: u64| match kind {
+        0 => Typed::Kelvins(f64::from_bits(bits)),
+        1 => Typed::Content(f64::from_bits(bits)),
         _ => panic!("no such kind"),
     };
     let (mut counts, mut misses, mut refused, mut sum) = (0, 0, 0, 0);
     for up in 0..floats as u64 {
-        for key in key..key + keys {
+        for key in keys.clone() {
             let (place, number) = match mark(typed(first + up), key, window) {
                 Ok(true) => (&mut counts, 1),
                 Ok(false) => (&mut misses, 0),

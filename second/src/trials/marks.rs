@@ -2,7 +2,6 @@
 
 use crate::answer::fields;
 use crate::dice::Dice;
-use crate::trials::desk::hexadecimal;
 use crate::trials::gas::{lean_charge, REFUSED, SHEETS};
 use crate::trials::EXTREMES;
 
@@ -19,9 +18,16 @@ fn mark(kind: &str, x: f64, key: i64, window: i64) -> String {
     fields(&format!("mark\t{kind}\t{}", hexadecimal(x)), &[key, window])
 }
 
-/// Marks of some floats from x up and some keys from one up.
+/// `x` and the 16 hexadecimal digits of a float's bits.
+fn hexadecimal(x: f64) -> String {
+    format!("x{:016x}", x.to_bits())
+}
+
+/// Marks of some floats from x up and some keys from one up; x in two halves of its bits.
 fn grid(kind: &str, x: f64, floats: i64, key: i64, keys: i64, window: i64) -> String {
-    fields(&format!("grid\t{kind}\t{}", hexadecimal(x)), &[floats, key, keys, window])
+    let [high, low] = [x.to_bits() >> 32, x.to_bits() & 0xffff_ffff].map(|half| half as i64);
+    let kind = if kind == "kelvins" { 0 } else { 1 };
+    fields("grid", &[kind, high, low, floats, key, keys, window])
 }
 
 /// Five floats about x and nine keys about a key: every one of them is an edge's neighbour.

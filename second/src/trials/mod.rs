@@ -26,7 +26,7 @@ pub enum Part {
     Program,
 }
 
-pub const BUILT: Part = Part::Gas;
+pub const BUILT: Part = Part::Marking;
 
 /// One trial: its name, the part it needs, and its request lines for what is built.
 pub struct Trial {

@@ -15,7 +15,8 @@ use Rattle.air.specs.Refusals.{gives, first, _when_}
 use Rattle.marking.specs.Marking.{near}
 use Rattle.marking.specs.Exact.{turned, sized}
 use Rattle.marking.proofs.Spans.{near-value}
-use Rattle.marking.proofs.Patterns.{fields-value, value-finite, top-none, nan-none, no-nan}
+use Rattle.marking.specs.MarkingLaws.{nan-none, no-nan}
+use Rattle.marking.proofs.Patterns.{fields-value, value-finite, top-none}
 use Rattle.marking.proofs.Ends.{Ranged, ranged, turned-fits, low-fits, high-fits, high-most}
 use Rattle.marking.proofs.mark_number.Statement.{statement}
 use Rattle.marking.proofs.mark_number.Tie as tie

@@ -1,0 +1,73 @@
+use lib.ListN.{length, length-set}
+use native.Mathlib.Omega.{arith}
+use mathlib.Core.Path.{_≡_, refl}
+use Prim.Native.Nat.{_-_, _≤_}
+use borrow.Author.Needs.{needs}
+use Rattle.trials.proofs.lists.fill_numbers.Statement.{statement}
+use Rattle.trials.proofs.lists.fill_numbers.Tie as tie
+use Rattle.trials.proofs.lists.fill_numbers.Reads as reads
+use Rattle.trials.proofs.lists.fill_numbers.Lts as lts
+use Rattle.signed.proofs.of_u64.Reads as of-u64-reads
+
+abbrev Inv-loop : tie.InvT-loop
+Inv-loop list₀ i₀ list i = length list ≡ length list₀
+
+abbrev μ-loop : tie.MeasureT-loop
+μ-loop list₀ i₀ list i = length list₀ - i
+
+-- src/lists.rt:72:5
+loop-holds : tie.Need-loop-holds Inv-loop μ-loop
+loop-holds c = search needs
+
+-- src/lists.rt:73:34
+add-of-u64 : tie.Need-add-of-u64 Inv-loop μ-loop
+add-of-u64 c = search needs
+
+-- src/lists.rt:73:19
+of-u64-requires : tie.Need-of-u64-requires Inv-loop μ-loop
+of-u64-requires c κs = search needs
+
+-- src/lists.rt:73:9
+mul-t8 : tie.Need-mul-t8 Inv-loop μ-loop
+mul-t8 c = search needs
+
+-- src/lists.rt:73:9
+slice-set-from-list : tie.Need-slice-set-from-list Inv-loop μ-loop
+slice-set-from-list c = search needs
+
+-- src/lists.rt:74:9
+add-i : tie.Need-add-i Inv-loop μ-loop
+add-i c = search needs
+
+-- src/lists.rt:72:5
+loop-less : tie.Need-loop-less Inv-loop μ-loop
+loop-less c = search needs
+
+-- src/lists.rt:72:5
+loop-again : tie.Need-loop-again Inv-loop μ-loop
+loop-again c = search needs
+
+-- src/lists.rt:70:1
+same-length : tie.Need-same-length Inv-loop μ-loop
+same-length c = search needs
+
+-- src/lists.rt:70:1
+returns : tie.Need-returns Inv-loop μ-loop
+returns c = search needs
+
+pub fill-numbers-spec : {M : Type 1} → statement M
+fill-numbers-spec =
+    tie.close
+    (tie.spec
+    Inv-loop
+    μ-loop
+    loop-holds
+    add-of-u64
+    of-u64-requires
+    mul-t8
+    slice-set-from-list
+    add-i
+    loop-less
+    loop-again
+    same-length
+    returns)

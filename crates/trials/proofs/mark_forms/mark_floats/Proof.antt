@@ -1,0 +1,59 @@
+use lib.ListN.{length, length-set}
+use native.Mathlib.Omega.{arith}
+use mathlib.Core.Path.{_≡_, refl}
+use Prim.Native.Nat.{_-_, _≤_}
+use borrow.Author.Needs.{needs}
+use Rattle.trials.proofs.mark_forms.mark_floats.Statement.{statement}
+use Rattle.trials.proofs.mark_forms.mark_floats.Tie as tie
+use Rattle.trials.proofs.mark_forms.mark_floats.Reads as reads
+use Rattle.trials.proofs.mark_forms.mark_floats.Lts as lts
+use Rattle.std.proofs.num.wrapping_add_u64.Reads as wrapping-add-u64-reads
+use Rattle.trials.proofs.mark_forms.mark_keys.Reads as mark-keys-reads
+
+abbrev Inv-loop : tie.InvT-loop
+Inv-loop grid tally₀ bits₀ i₀ tally bits i = Unit {0}
+
+abbrev μ-loop : tie.MeasureT-loop
+μ-loop grid tally₀ bits₀ i₀ tally bits i = grid .floats - i
+
+-- src/mark_forms.rt:148:5
+loop-holds : tie.Need-loop-holds Inv-loop μ-loop
+loop-holds c = search needs
+
+-- src/mark_forms.rt:149:9
+mark-keys-requires : tie.Need-mark-keys-requires Inv-loop μ-loop
+mark-keys-requires c κs = search needs
+
+-- src/mark_forms.rt:150:9
+wrapping-add-u64-requires : tie.Need-wrapping-add-u64-requires Inv-loop μ-loop
+wrapping-add-u64-requires c κs = search needs
+
+-- src/mark_forms.rt:151:9
+add-i : tie.Need-add-i Inv-loop μ-loop
+add-i c = search needs
+
+-- src/mark_forms.rt:148:5
+loop-less : tie.Need-loop-less Inv-loop μ-loop
+loop-less c = search needs
+
+-- src/mark_forms.rt:148:5
+loop-again : tie.Need-loop-again Inv-loop μ-loop
+loop-again c = search needs
+
+-- src/mark_forms.rt:139:1
+returns : tie.Need-returns Inv-loop μ-loop
+returns c = search needs
+
+pub mark-floats-spec : {M : Type 1} → statement M
+mark-floats-spec =
+    tie.close
+    (tie.spec
+    Inv-loop
+    μ-loop
+    loop-holds
+    mark-keys-requires
+    wrapping-add-u64-requires
+    add-i
+    loop-less
+    loop-again
+    returns)
