@@ -1,0 +1,23 @@
+//! The gas keys for Rust: answer keys to numerical exam questions for gas turbine performance
+//! technicians.
+//!
+//! A safe wrapper of `libcapi.a`, in which every call is proved to give a defined answer or a
+//! numbered [`Refusal`] for every input. Nothing has to be checked before a call: a list of any
+//! length and any number may be passed. A list is lent as a slice, and what a call leaves in it is
+//! said with the call. There is no state; calls may be made from any number of threads.
+//!
+//! The archive is looked for in the folder GASKEYS_LIB, else in the project's target/staticlib,
+//! where `rt staticlib capi` puts it.
+
+mod gas;
+mod marking;
+mod raw;
+mod refusal;
+mod sheet;
+mod walk;
+
+pub use gas::{psi_inverse, temperature, Charge, Heat, Millikelvin, LOOKS};
+pub use marking::{mark, station, Station, Typed};
+pub use refusal::Refusal;
+pub use sheet::{judge_sheet, read_sheet, SHEET_PLACES};
+pub use walk::{walk, Lent, State, Step, Walked};

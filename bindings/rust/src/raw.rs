@@ -1,0 +1,103 @@
+//! The calls as include/gaskeys.h declares them. A list is a pointer and its length in elements.
+
+#[repr(C)]
+pub struct SheetTold {
+    pub refusal: u32,
+    pub row: u32,
+}
+
+#[repr(C)]
+pub struct TemperatureTold {
+    pub refusal: u32,
+    pub row: u32,
+    pub millikelvin: i64,
+    pub rest: i64,
+}
+
+#[repr(C)]
+pub struct PsiTold {
+    pub refusal: u32,
+    pub row: u32,
+    pub millikelvin: i64,
+    pub rest: u64,
+}
+
+#[repr(C)]
+pub struct WalkTold {
+    pub refusal: u32,
+    pub row: u32,
+    pub begun: u32,
+    pub steps: u32,
+    pub air: i64,
+    pub carbon: i64,
+    pub hydrogen: i64,
+    pub millikelvin: i64,
+}
+
+#[repr(C)]
+pub struct StationTold {
+    pub refusal: u32,
+    pub row: u32,
+    pub millikelvin: f64,
+    pub content: f64,
+    pub mass: f64,
+}
+
+#[repr(C)]
+pub struct MarkTold {
+    pub refusal: u32,
+    pub row: u32,
+    pub counts: u32,
+}
+
+extern "C" {
+    pub fn gaskeys_read_sheet(
+        text: *const u8,
+        text_length: usize,
+        list: *mut u32,
+        list_length: usize,
+    ) -> SheetTold;
+
+    pub fn gaskeys_judge_sheet(list: *const u32, list_length: usize) -> SheetTold;
+
+    pub fn gaskeys_temperature(
+        air: i64,
+        carbon: i64,
+        hydrogen: i64,
+        target: i64,
+        sheet: *const u32,
+        sheet_length: usize,
+        looks: *mut u32,
+        looks_length: usize,
+    ) -> TemperatureTold;
+
+    pub fn gaskeys_psi_inverse(target: i64, looks: *mut u32, looks_length: usize) -> PsiTold;
+
+    pub fn gaskeys_walk(
+        air: i64,
+        carbon: i64,
+        hydrogen: i64,
+        millikelvin: i64,
+        sheet: *const u32,
+        sheet_length: usize,
+        steps: *const i64,
+        steps_length: usize,
+        temperatures: *mut i64,
+        temperatures_length: usize,
+        rests: *mut i64,
+        rests_length: usize,
+        looks: *mut u32,
+        looks_length: usize,
+    ) -> WalkTold;
+
+    pub fn gaskeys_station(
+        air: i64,
+        carbon: i64,
+        hydrogen: i64,
+        millikelvin: i64,
+        sheet: *const u32,
+        sheet_length: usize,
+    ) -> StationTold;
+
+    pub fn gaskeys_mark(kind: u32, number: f64, key: i64, window: i64) -> MarkTold;
+}

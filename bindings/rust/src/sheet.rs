@@ -1,0 +1,44 @@
+use crate::raw;
+use crate::Refusal;
+
+/// The places of a sheet list: O2, CO2 and H2O of 200 K first, then of each kelvin to 2,000.
+pub const SHEET_PLACES: usize = 5403;
+
+/// Reads the text of a sheet into a list of [`SHEET_PLACES`] numbers.
+///
+/// The form of the text is judged and not the step rule. A refusal (1, 2) leaves the list as it was.
+///
+/// ```
+/// let text: String = (200..=2000).map(|kelvin| format!("{kelvin}\t10\t20\t30\n")).collect();
+/// let mut list = vec![0; gaskeys::SHEET_PLACES];
+/// gaskeys::read_sheet(text.as_bytes(), &mut list)?;
+/// assert_eq!(list[5400..], [10, 20, 30]);
+///
+/// let refusal = gaskeys::read_sheet(b"200\t1\t2\t3\n202", &mut list).unwrap_err();
+/// assert_eq!((refusal.number(), refusal.row()), (2, Some(1)));
+/// assert_eq!(list[..3], [10, 20, 30]);
+/// # Ok::<(), gaskeys::Refusal>(())
+/// ```
+pub fn read_sheet(text: &[u8], list: &mut [u32]) -> Result<(), Refusal> {
+    // SAFETY: both are Rust slices, so they are live, aligned, not null and apart; their lengths go with them.
+    let told = unsafe {
+        raw::gaskeys_read_sheet(text.as_ptr(), text.len(), list.as_mut_ptr(), list.len())
+    };
+    Refusal::told(told.refusal, told.row)
+}
+
+/// Judges a sheet list as every call that takes one does first: its length, the limit of 200,000
+/// and the step rule. Refusals: 1, 3.
+///
+/// ```
+/// let mut list = vec![100; gaskeys::SHEET_PLACES];
+/// gaskeys::judge_sheet(&list)?;
+/// list[3 * 1800 + 2] = 99;
+/// assert_eq!(gaskeys::judge_sheet(&list).unwrap_err().row(), Some(1800));
+/// # Ok::<(), gaskeys::Refusal>(())
+/// ```
+pub fn judge_sheet(list: &[u32]) -> Result<(), Refusal> {
+    // SAFETY: a Rust slice with its length; it is only read.
+    let told = unsafe { raw::gaskeys_judge_sheet(list.as_ptr(), list.len()) };
+    Refusal::told(told.refusal, told.row)
+}

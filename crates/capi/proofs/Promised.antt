@@ -1,0 +1,50 @@
+-- The entry's promise and a struct that flattens its answer make the promise of the call. Assumes nothing.
+use mathlib.Core.Path.{_≡_, refl, ap, _∙_}
+use mathlib.Core.List.{List}
+use Prim.Native.Nat.{ℕ}
+use lib.IntN.{ℤ}
+use lib.ListN.{length}
+use Rattle.air.specs.declared.Refusal.the-variants.{Plain, AtRow}
+use Rattle.air.specs.declared.PsiAnswer.{PsiAnswer}
+use Rattle.air.specs.Refusals.{Told}
+use Rattle.air.specs.Answers.{paperPsi, PsiInverse}
+use Rattle.sheet.specs.declared.SheetAnswer.{SheetAnswer}
+use Rattle.sheet.specs.declared.SheetAnswer.the-variants.{Good, Refused}
+use Rattle.sheet.specs.Answers.{paper, numbersOf, listAfter, SheetRead}
+use Rattle.gas.specs.declared.Charge.{Charge}
+use Rattle.gas.specs.declared.TemperatureAnswer.{TemperatureAnswer}
+use Rattle.gas.specs.Burning.{Weights}
+use Rattle.gas.specs.Answers.{paperTemperature, Temperature}
+use Rattle.walk.specs.declared.WalkAnswer.{WalkAnswer}
+use Rattle.walk.specs.Walk.{Trace, paperWalk, Walks}
+use Rattle.capi.specs.declared.SheetTold.{SheetTold}
+use Rattle.capi.specs.declared.TemperatureTold.{TemperatureTold}
+use Rattle.capi.specs.declared.PsiTold.{PsiTold}
+use Rattle.capi.specs.declared.WalkTold.{WalkTold}
+use Rattle.capi.specs.Flat.{flatSheet, flatTemperature, flatPsi, flatWalk}
+use Rattle.capi.specs.Lent.{listTold, SheetIs, TemperatureIs, PsiIs, WalkIs}
+
+-- the list by the answer is the list by what it tells
+list-as-told : (a : SheetAnswer) (numbers before : List ℕ) → listAfter a numbers before ≡ listTold (paper a) numbers before
+list-as-told Good numbers before = refl
+list-as-told (Refused (Plain n)) numbers before = refl
+list-as-told (Refused (AtRow n r)) numbers before = refl
+
+pub sheet-told : {text before later : List ℕ} {a : SheetAnswer} {r : SheetTold} → SheetRead text before a later → r ≡ flatSheet (paper a) → SheetIs text before r later
+sheet-told {before = before} {a = a} p q =
+    record {
+      form = p .form;
+      told = q ∙ ap flatSheet (p .told);
+      list = p .list ∙ (list-as-told a (numbersOf (p .form)) before ∙ ap (λ t. listTold t (numbersOf (p .form)) before) (p .told));
+    }
+
+pub temperature-told : {w : Weights} {ch : Charge} {target : ℤ} {s before after : List ℕ} {a : TemperatureAnswer} {r : TemperatureTold}
+    → Temperature w ch target s before a after → r ≡ flatTemperature (paperTemperature a) → TemperatureIs w ch target s before r after
+temperature-told p q = record { told = q ∙ ap flatTemperature (p .told); list = p .list }
+
+pub psi-told : {target : ℤ} {before after : List ℕ} {a : PsiAnswer} {r : PsiTold} → PsiInverse target before a after → r ≡ flatPsi (paperPsi a) → PsiIs target before r after
+psi-told p q = record { told = q ∙ ap flatPsi (p .told); list = p .list }
+
+pub walk-told : {told : Told Trace} {t r t′ r′ : List ℤ} {l l′ : List ℕ} {a : WalkAnswer} {o : WalkTold}
+    → Walks told t r l a t′ r′ l′ → o ≡ flatWalk (paperWalk a) → WalkIs told t r l o t′ r′ l′
+walk-told p q = record { answer = q ∙ ap flatWalk (p .answer); temperatures = p .temperatures; rests = p .rests; looks = p .looks }

@@ -1,0 +1,21 @@
+use borrow.Author.Needs.{needs}
+use Rattle.signed.specs.Zed.{back}
+use Rattle.capi.proofs.Promised.{temperature-told}
+use Rattle.capi.proofs.gaskeys_temperature.Statement.{statement}
+use Rattle.capi.proofs.gaskeys_temperature.Tie as tie
+
+temperature-requires : tie.Need-temperature-requires
+temperature-requires c κs = search needs
+
+tell-temperature-requires : tie.Need-tell-temperature-requires
+tell-temperature-requires c κs = search needs
+
+same-length : tie.Need-same-length
+same-length c = search needs
+
+returns : tie.Need-returns
+returns c = let s = c .before .before .before .before .before .before .before in temperature-told (rw (back (s .fits .air), back (s .fits .carbon), back (s .fits .hydrogen), back (s .fits .target)) at (c .before .before .before .temperature .ensures)) (c .tell-temperature .ensures)
+
+pub gaskeys-temperature-spec : {M : Type 1} → statement M
+gaskeys-temperature-spec =
+    tie.close (tie.spec temperature-requires tell-temperature-requires same-length returns)

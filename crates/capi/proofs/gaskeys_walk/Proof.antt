@@ -1,0 +1,28 @@
+use borrow.Author.Needs.{needs}
+use Rattle.signed.specs.Zed.{back}
+use Rattle.capi.proofs.Promised.{walk-told}
+use Rattle.capi.proofs.gaskeys_walk.Statement.{statement}
+use Rattle.capi.proofs.gaskeys_walk.Tie as tie
+
+walk-requires : tie.Need-walk-requires
+walk-requires c κs = search needs
+
+tell-walk-requires : tie.Need-tell-walk-requires
+tell-walk-requires c κs = search needs
+
+same-length : tie.Need-same-length
+same-length c = search needs
+
+same-length-2 : tie.Need-same-length-2
+same-length-2 c = search needs
+
+same-length-3 : tie.Need-same-length-3
+same-length-3 c = search needs
+
+returns : tie.Need-returns
+returns c = let s = c .before .before .before .before .before .before .before .before .before .before .before in walk-told (rw (back (s .fits .air), back (s .fits .carbon), back (s .fits .hydrogen), back (s .fits .millikelvin)) at (c .before .before .before .before .before .walk .ensures)) (c .tell-walk .ensures)
+
+pub gaskeys-walk-spec : {M : Type 1} → statement M
+gaskeys-walk-spec =
+    tie.close
+    (tie.spec walk-requires tell-walk-requires same-length same-length-2 same-length-3 returns)

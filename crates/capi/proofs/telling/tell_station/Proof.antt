@@ -1,0 +1,37 @@
+use borrow.Author.Needs.{needs}
+use mathlib.Core.Path.{_∙_, sym, ap}
+use Rattle.marking.specs.declared.StationAnswer.{StationAnswer}
+use Rattle.marking.specs.Figures.{paperStation}
+use Rattle.capi.specs.Flat.{flatStation}
+use Rattle.capi.proofs.Structs.{station-refused}
+use Rattle.capi.proofs.telling.tell_station.Statement.{statement}
+use Rattle.capi.proofs.telling.tell_station.Tie as tie
+
+enum-known-answer : tie.Need-enum-known-answer
+enum-known-answer c = search needs
+
+enum-known-answer-2 : tie.Need-enum-known-answer-2
+enum-known-answer-2 c = search needs
+
+number-of-requires : tie.Need-number-of-requires
+number-of-requires c κs = search needs
+
+row-of-requires : tie.Need-row-of-requires
+row-of-requires c κs = search needs
+
+returns : tie.Need-returns
+returns c = sym (ap (λ (a : StationAnswer). flatStation (paperStation a)) (c .before .answer .given .1))
+
+returns-2 : tie.Need-returns-2
+returns-2 c = station-refused (c .before .before .before .answer2 .given .0 .0) (c .before .number-of .ensures) (c .row-of .ensures) ∙ sym (ap (λ (a : StationAnswer). flatStation (paperStation a)) (c .before .before .before .answer2 .given .1))
+
+pub tell-station-spec : {M : Type 1} → statement M
+tell-station-spec =
+    tie.close
+    (tie.spec
+    enum-known-answer
+    enum-known-answer-2
+    number-of-requires
+    row-of-requires
+    returns
+    returns-2)

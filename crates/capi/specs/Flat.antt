@@ -1,0 +1,97 @@
+-- What a call tells, as one struct by value: 0 or the refusal's number, the row of refusals 2 and 3, the values of the answer, and 0 in every field that a case does not
+-- have. Each definition takes what the entry of the same name tells (`Told`, in the paper's numbers). Definitions only.
+use mathlib.Core.Bool.{Bool, true, false, cond}
+use Prim.Native.Nat.{ℕ}
+use lib.Dec.{eqb}
+use lib.IntN.{ℤ, pos}
+use lib.Ieee.{Float, binary64, ofBits}
+use Rattle.signed.specs.Zed.{up}
+use Rattle.air.specs.declared.Refusal.{Refusal}
+use Rattle.air.specs.declared.Refusal.the-variants.{Plain, AtRow}
+use Rattle.air.specs.Refusals.{Told, gives, refuses, refusesRow}
+use Rattle.air.specs.Inverse.{Found}
+use Rattle.gas.specs.declared.Charge.{Charge}
+use Rattle.walk.specs.Walk.{Course, done, stopped}
+use Rattle.marking.specs.declared.Typed.{Typed}
+use Rattle.marking.specs.declared.Typed.the-variants.{Kelvins, Content, Blank}
+use Rattle.marking.specs.declared.StationFigure.{StationFigure}
+use Rattle.capi.specs.declared.SheetTold.{SheetTold}
+use Rattle.capi.specs.declared.TemperatureTold.{TemperatureTold}
+use Rattle.capi.specs.declared.PsiTold.{PsiTold}
+use Rattle.capi.specs.declared.WalkTold.{WalkTold}
+use Rattle.capi.specs.declared.StationTold.{StationTold}
+use Rattle.capi.specs.declared.MarkTold.{MarkTold}
+
+-- 0, or the number of the refusal
+abbrev pub number : {A : Type 0} → Told A → ℕ
+number (gives a) = 0
+number (refuses n) = n
+number (refusesRow n r) = n
+
+-- the row of the refusal, 0 where there is none
+abbrev pub row : {A : Type 0} → Told A → ℕ
+row (gives a) = 0
+row (refuses n) = 0
+row (refusesRow n r) = r
+
+-- the values, or what stands where there are none
+abbrev pub valuesOr : {A : Type 0} → A → Told A → A
+valuesOr none (gives a) = a
+valuesOr none (refuses n) = none
+valuesOr none (refusesRow n r) = none
+
+-- the same of a refusal alone
+abbrev pub numberIn : Refusal → ℕ
+numberIn (Plain n) = n
+numberIn (AtRow n r) = n
+
+abbrev pub rowIn : Refusal → ℕ
+rowIn (Plain n) = 0
+rowIn (AtRow n r) = r
+
+abbrev pub flatSheet : Told (Unit {0}) → SheetTold
+flatSheet t = record { refusal = number t; row = row t }
+
+-- no temperature and no rest
+abbrev pub notFound : Found
+notFound = record { mk = pos 0; left = pos 0 }
+
+abbrev pub flatTemperature : Told Found → TemperatureTold
+flatTemperature t = record { refusal = number t; row = row t; millikelvin = valuesOr notFound t .mk; rest = valuesOr notFound t .left }
+
+abbrev pub flatPsi : Told Found → PsiTold
+flatPsi t = record { refusal = number t; row = row t; millikelvin = valuesOr notFound t .mk; rest = up (valuesOr notFound t .left) }
+
+-- a walk that began: 0 or the number of the refused step, the steps done, the charge and the temperature
+abbrev pub flatBegun : ℕ → ℕ → Charge → ℤ → WalkTold
+flatBegun n steps ch mk = record { refusal = n; row = 0; begun = 1; steps = steps; air = ch .air; carbon = ch .carbon; hydrogen = ch .hydrogen; millikelvin = mk }
+
+-- one that was refused at its start
+abbrev pub flatUnbegun : ℕ → ℕ → WalkTold
+flatUnbegun n r = record { refusal = n; row = r; begun = 0; steps = 0; air = pos 0; carbon = pos 0; hydrogen = pos 0; millikelvin = pos 0 }
+
+abbrev pub flatWalk : Told Course → WalkTold
+flatWalk (gives (done steps ch mk)) = flatBegun 0 steps ch mk
+flatWalk (gives (stopped steps n ch mk)) = flatBegun n steps ch mk
+flatWalk (refuses n) = flatUnbegun n 0
+flatWalk (refusesRow n r) = flatUnbegun n r
+
+-- no figures: three times the float whose 64 bits are 0
+abbrev pub noFigures : StationFigure
+noFigures = let zero = ofBits binary64 0 in record { millikelvin = zero; content = zero; mass = zero }
+
+abbrev pub flatStation : Told StationFigure → StationTold
+flatStation t = record {
+  refusal = number t;
+  row = row t;
+  millikelvin = valuesOr noFigures t .millikelvin;
+  content = valuesOr noFigures t .content;
+  mass = valuesOr noFigures t .mass;
+}
+
+abbrev pub flatMark : Told Bool → MarkTold
+flatMark t = record { refusal = number t; row = row t; counts = cond (valuesOr false t) 1 0 }
+
+-- a typed answer by the number of its kind: 0 kelvins, 1 a specific content; any other number is a blank
+abbrev pub typedOf : ℕ → Float → Typed
+typedOf kind x = cond (eqb kind 0) (Kelvins x) (cond (eqb kind 1) (Content x) Blank)

@@ -1,0 +1,46 @@
+-- The calls that write into lent lists, whole: the struct that comes back and every lent place. Each is the entry's own promise with its answer flattened. Definitions only.
+use mathlib.Core.List.{List}
+use mathlib.Core.Path.{_≡_}
+use Prim.Native.Nat.{ℕ}
+use lib.IntN.{ℤ}
+use lib.ListN.{length}
+use Rattle.air.specs.Refusals.{Told, gives, refuses, refusesRow}
+use Rattle.air.specs.Inverse.{looks, written}
+use Rattle.air.specs.Answers.{psiValue, psiInverseTold}
+use Rattle.sheet.specs.Answers.{Form, readTold, numbersOf}
+use Rattle.gas.specs.declared.Charge.{Charge}
+use Rattle.gas.specs.Burning.{Weights, gasOf}
+use Rattle.gas.specs.Heat.{gasHeat}
+use Rattle.gas.specs.Answers.{temperatureTold}
+use Rattle.walk.specs.Lists.{laid}
+use Rattle.walk.specs.Walk.{Trace, course, outsOf, temperaturesOf, restsOf, looksOf}
+use Rattle.capi.specs.declared.SheetTold.{SheetTold}
+use Rattle.capi.specs.declared.TemperatureTold.{TemperatureTold}
+use Rattle.capi.specs.declared.PsiTold.{PsiTold}
+use Rattle.capi.specs.declared.WalkTold.{WalkTold}
+use Rattle.capi.specs.Flat.{flatSheet, flatTemperature, flatPsi, flatWalk}
+
+-- the list of a sheet after its text was read: all numbers of a good sheet, and unchanged by a refusal
+abbrev pub listTold : Told (Unit {0}) → List ℕ → List ℕ → List ℕ
+listTold (gives a) numbers before = numbers
+listTold (refuses n) numbers before = before
+listTold (refusesRow n r) numbers before = before
+
+pub record SheetIs (text before : List ℕ) (r : SheetTold) (later : List ℕ) : Type 0 where
+  pub form : Form text
+  pub told : r ≡ flatSheet (readTold before form)
+  pub list : later ≡ listTold (readTold before form) (numbersOf form) before
+
+pub record TemperatureIs (w : Weights) (ch : Charge) (target : ℤ) (s before : List ℕ) (r : TemperatureTold) (after : List ℕ) : Type 0 where
+  pub told : r ≡ flatTemperature (temperatureTold w ch target s (length before))
+  pub list : after ≡ written (temperatureTold w ch target s (length before)) (looks (gasHeat w s (gasOf ch)) target) before
+
+pub record PsiIs (target : ℤ) (before : List ℕ) (r : PsiTold) (after : List ℕ) : Type 0 where
+  pub told : r ≡ flatPsi (psiInverseTold (length before) target)
+  pub list : after ≡ written (psiInverseTold (length before) target) (looks psiValue target) before
+
+pub record WalkIs (told : Told Trace) (t r : List ℤ) (l : List ℕ) (o : WalkTold) (t′ r′ : List ℤ) (l′ : List ℕ) : Type 0 where
+  pub answer : o ≡ flatWalk (course told)
+  pub temperatures : t′ ≡ laid (temperaturesOf (outsOf told)) t
+  pub rests : r′ ≡ laid (restsOf (outsOf told)) r
+  pub looks : l′ ≡ laid (looksOf (outsOf told)) l

@@ -1,0 +1,3 @@
+pub mod Flat
+pub mod Lent
+pub mod OneOutcome

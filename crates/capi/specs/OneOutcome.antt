@@ -1,0 +1,49 @@
+-- No two outcomes satisfy the promise of a call: `one-NAME` for each call NAME. A promise is an equation for the struct and one for each lent list. Assumes nothing.
+use mathlib.Core.Path.{_≡_, refl, sym, _∙_, ap, ap₂}
+use mathlib.Core.List.{List}
+use Prim.Native.Nat.{ℕ}
+use lib.IntN.{ℤ}
+use lib.Ieee.{Float}
+use Rattle.air.specs.Refusals.{Told}
+use Rattle.sheet.specs.Answers.{readTold, judgeTold}
+use Rattle.sheet.specs.FormLaws.{one-form}
+use Rattle.gas.specs.declared.Charge.{Charge}
+use Rattle.gas.specs.Burning.{Weights}
+use Rattle.walk.specs.Walk.{Trace}
+use Rattle.marking.specs.Marking.{marked}
+use Rattle.marking.specs.Figures.{stationTold}
+use Rattle.capi.specs.declared.SheetTold.{SheetTold}
+use Rattle.capi.specs.declared.TemperatureTold.{TemperatureTold}
+use Rattle.capi.specs.declared.PsiTold.{PsiTold}
+use Rattle.capi.specs.declared.WalkTold.{WalkTold}
+use Rattle.capi.specs.declared.StationTold.{StationTold}
+use Rattle.capi.specs.declared.MarkTold.{MarkTold}
+use Rattle.capi.specs.Flat.{flatSheet, flatStation, flatMark, typedOf}
+use Rattle.capi.specs.Lent.{listTold, SheetIs, TemperatureIs, PsiIs, WalkIs}
+
+pub one-gaskeys_read_sheet : {text before later after : List ℕ} {r q : SheetTold} → SheetIs text before r later → SheetIs text before q after → (r ≡ q) × (later ≡ after)
+one-gaskeys_read_sheet {before = before} p o =
+    let s = one-form (p .form) (o .form) in
+    let l : readTold before (p .form) ≡ readTold before (o .form) = rw (s .breaks-same, s .row-same) refl in
+    (p .told ∙ (ap flatSheet l ∙ sym (o .told)), p .list ∙ (ap₂ (λ (x : Told (Unit {0})) (y : List ℕ). listTold x y before) l (s .numbers-same) ∙ sym (o .list)))
+
+pub one-gaskeys_judge_sheet : (s : List ℕ) (r q : SheetTold) → r ≡ flatSheet (judgeTold s) → q ≡ flatSheet (judgeTold s) → r ≡ q
+one-gaskeys_judge_sheet s r q p o = p ∙ sym o
+
+pub one-gaskeys_temperature : {w : Weights} {ch : Charge} {target : ℤ} {s before after later : List ℕ} {r q : TemperatureTold}
+    → TemperatureIs w ch target s before r after → TemperatureIs w ch target s before q later → (r ≡ q) × (after ≡ later)
+one-gaskeys_temperature p o = (p .told ∙ sym (o .told), p .list ∙ sym (o .list))
+
+pub one-gaskeys_psi_inverse : {target : ℤ} {before after later : List ℕ} {r q : PsiTold} → PsiIs target before r after → PsiIs target before q later → (r ≡ q) × (after ≡ later)
+one-gaskeys_psi_inverse p o = (p .told ∙ sym (o .told), p .list ∙ sym (o .list))
+
+pub one-gaskeys_walk : {told : Told Trace} {t r t′ r′ t″ r″ : List ℤ} {l l′ l″ : List ℕ} {a b : WalkTold}
+    → WalkIs told t r l a t′ r′ l′ → WalkIs told t r l b t″ r″ l″ → (a ≡ b) × (t′ ≡ t″) × (r′ ≡ r″) × (l′ ≡ l″)
+one-gaskeys_walk p o = (p .answer ∙ sym (o .answer), p .temperatures ∙ sym (o .temperatures), p .rests ∙ sym (o .rests), p .looks ∙ sym (o .looks))
+
+pub one-gaskeys_station : (ch : Charge) (mk : ℤ) (s : List ℕ) (r q : StationTold) → r ≡ flatStation (stationTold ch mk s) → q ≡ flatStation (stationTold ch mk s) → r ≡ q
+one-gaskeys_station ch mk s r q p o = p ∙ sym o
+
+pub one-gaskeys_mark : (kind : ℕ) (x : Float) (key window : ℤ) (r q : MarkTold)
+    → r ≡ flatMark (marked (typedOf kind x) key window) → q ≡ flatMark (marked (typedOf kind x) key window) → r ≡ q
+one-gaskeys_mark kind x key window r q p o = p ∙ sym o

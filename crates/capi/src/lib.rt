@@ -1,0 +1,176 @@
+// The calls for C and Rust: numbers and lent lists in, one struct by value out. Each takes every input and asks the entry of the same name; its promise is that entry's,
+// with the answer set out as a struct: 0 or the refusal's number, the row of refusals 2 and 3, the values, and 0 in every field that a case does not have
+// (specs/Flat.antt). Lent lists hold on return what the entry promises (specs/Lent.antt). include/gaskeys.h has the same calls for a reader of C.
+mod telling;
+
+use air::Millikelvin;
+use gas::Charge;
+use gas::Heat;
+ghost use mathlib.Core.Path.{_≡_};
+ghost use lib.ListN.{length};
+ghost use Rattle.sheet.specs.Answers.{sheetLines, judgeTold};
+ghost use Rattle.gas.specs.Burning.{document01};
+ghost use Rattle.walk.specs.Walk.{walked};
+ghost use Rattle.marking.specs.Marking.{marked};
+ghost use Rattle.marking.specs.Figures.{stationTold};
+ghost use Rattle.capi.specs.Flat.{flatSheet, flatStation, flatMark, typedOf};
+ghost use Rattle.capi.specs.Lent.{SheetIs, TemperatureIs, PsiIs, WalkIs};
+
+// What the reader and the judge of a sheet tell.
+#[repr(C)]
+pub struct SheetTold {
+    pub refusal: u32,
+    pub row: u32,
+}
+
+// The temperature of a gas heat, with the rest in mg times 0.00001 C.H.U./lb.
+#[repr(C)]
+pub struct TemperatureTold {
+    pub refusal: u32,
+    pub row: u32,
+    pub millikelvin: i64,
+    pub rest: i64,
+}
+
+// The temperature of a psi of air, with the rest in 0.0000001.
+#[repr(C)]
+pub struct PsiTold {
+    pub refusal: u32,
+    pub row: u32,
+    pub millikelvin: i64,
+    pub rest: u64,
+}
+
+// A walk. `begun` is 1 where it got past its start: done where `refusal` is 0, else stopped by that refusal of a step.
+#[repr(C)]
+pub struct WalkTold {
+    pub refusal: u32,
+    pub row: u32,
+    pub begun: u32,
+    pub steps: u32,
+    pub air: i64,
+    pub carbon: i64,
+    pub hydrogen: i64,
+    pub millikelvin: i64,
+}
+
+// A station's three figures.
+#[repr(C)]
+pub struct StationTold {
+    pub refusal: u32,
+    pub row: u32,
+    pub millikelvin: f64,
+    pub content: f64,
+    pub mass: f64,
+}
+
+// A mark: `counts` is 1 where the answer counts.
+#[repr(C)]
+pub struct MarkTold {
+    pub refusal: u32,
+    pub row: u32,
+    pub counts: u32,
+}
+
+// Reads the text of a sheet into a list of 5,403 numbers.
+#[no_mangle]
+pub extern "C" fn gaskeys_read_sheet(text: &[u8], list: &mut [u32]) -> SheetTold
+    ensures { λ r. ⌜ SheetIs (now (text .entry)) (now (list .entry)) r (now (list .exit)) ⌝ }
+{
+    telling::tell_sheet(sheet::read_sheet(text, list))
+}
+
+// Judges a sheet list.
+#[no_mangle]
+pub extern "C" fn gaskeys_judge_sheet(list: &[u32]) -> SheetTold
+    ensures { λ r. ⌜ r ≡ flatSheet (judgeTold (now (list .entry))) ⌝ }
+{
+    telling::tell_sheet(sheet::judge_sheet(list))
+}
+
+// The greatest temperature whose gas heat is at most the target. The looks go into the first eleven places of the list, 0 where unused.
+#[no_mangle]
+pub extern "C" fn gaskeys_temperature(
+    air: i64,
+    carbon: i64,
+    hydrogen: i64,
+    target: i64,
+    sheet: &[u32],
+    looks: &mut [u32],
+) -> TemperatureTold
+    ensures { λ r. ⌜ TemperatureIs document01 (record { air = air; carbon = carbon; hydrogen = hydrogen }) target (now (sheet .entry)) (now (looks .entry)) r (now (looks .exit)) ⌝ }
+{
+    let charge = Charge {
+        air,
+        carbon,
+        hydrogen,
+    };
+    telling::tell_temperature(gas::temperature(charge, Heat(target), sheet, looks))
+}
+
+// The greatest temperature whose psi of air is at most the target. The looks go into the first eleven places of the list, 0 where unused.
+#[no_mangle]
+pub extern "C" fn gaskeys_psi_inverse(target: i64, looks: &mut [u32]) -> PsiTold
+    ensures { λ r. ⌜ PsiIs target (now (looks .entry)) r (now (looks .exit)) ⌝ }
+{
+    telling::tell_psi(air::psi_inverse(target, looks))
+}
+
+// The walk of a charge from a temperature over the steps, four numbers each. Step i writes place i of the temperatures and rests, and the eleven places of looks from
+// 11 i on.
+#[no_mangle]
+pub extern "C" fn gaskeys_walk(
+    air: i64,
+    carbon: i64,
+    hydrogen: i64,
+    millikelvin: i64,
+    sheet: &[u32],
+    steps: &[i64],
+    temperatures: &mut [i64],
+    rests: &mut [i64],
+    looks: &mut [u32],
+) -> WalkTold
+    ensures { λ r. ⌜ WalkIs (walked (sheetLines (now (sheet .entry))) document01 (now (sheet .entry)) (record { air = air; carbon = carbon; hydrogen = hydrogen }) millikelvin (now (steps .entry)) (length (now (temperatures .entry))) (length (now (rests .entry))) (length (now (looks .entry)))) (now (temperatures .entry)) (now (rests .entry)) (now (looks .entry)) r (now (temperatures .exit)) (now (rests .exit)) (now (looks .exit)) ⌝ }
+{
+    let charge = Charge {
+        air,
+        carbon,
+        hydrogen,
+    };
+    telling::tell_walk(walk::walk(
+        charge,
+        Millikelvin(millikelvin),
+        sheet,
+        steps,
+        temperatures,
+        rests,
+        looks,
+    ))
+}
+
+// A station's figures: mK, specific content in 0.00001 C.H.U./lb, total mass in mg.
+#[no_mangle]
+pub extern "C" fn gaskeys_station(
+    air: i64,
+    carbon: i64,
+    hydrogen: i64,
+    millikelvin: i64,
+    sheet: &[u32],
+) -> StationTold
+    ensures { λ r. ⌜ r ≡ flatStation (stationTold (record { air = air; carbon = carbon; hydrogen = hydrogen }) millikelvin (now (sheet .entry))) ⌝ }
+{
+    let charge = Charge {
+        air,
+        carbon,
+        hydrogen,
+    };
+    telling::tell_station(marking::station(charge, Millikelvin(millikelvin), sheet))
+}
+
+// The mark of a typed answer against a key and a window. A kind that is neither 0 nor 1 is a blank, whatever the number.
+#[no_mangle]
+pub extern "C" fn gaskeys_mark(kind: u32, number: f64, key: i64, window: i64) -> MarkTold
+    ensures { λ r. ⌜ r ≡ flatMark (marked (typedOf kind number) key window) ⌝ }
+{
+    telling::tell_mark(marking::mark(telling::typed_of(kind, number), key, window))
+}

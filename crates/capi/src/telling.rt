@@ -1,0 +1,192 @@
+// Each answer as the struct that C gets: one definition of specs/Flat.antt each. A typed answer comes in by the number of its kind.
+use crate::MarkTold;
+use crate::PsiTold;
+use crate::SheetTold;
+use crate::StationTold;
+use crate::TemperatureTold;
+use crate::WalkTold;
+use air::Millikelvin;
+use air::PsiAnswer;
+use air::Refusal;
+use gas::Charge;
+use gas::TemperatureAnswer;
+use marking::MarkAnswer;
+use marking::StationAnswer;
+use marking::Typed;
+use sheet::SheetAnswer;
+use walk::WalkAnswer;
+ghost use mathlib.Core.Path.{_≡_};
+ghost use Rattle.air.specs.Answers.{paperPsi};
+ghost use Rattle.sheet.specs.Answers.{paper as paperSheet};
+ghost use Rattle.gas.specs.Answers.{paperTemperature};
+ghost use Rattle.walk.specs.Walk.{paperWalk};
+ghost use Rattle.marking.specs.Marking.{paper as paperMark};
+ghost use Rattle.marking.specs.Figures.{paperStation};
+ghost use Rattle.capi.specs.Flat.{numberIn, rowIn, flatSheet, flatTemperature, flatPsi, flatWalk, flatBegun, flatStation, flatMark, typedOf};
+
+// The number of a refusal.
+fn number_of(r: Refusal) -> u32
+    ensures { λ n. ⌜ n ≡ numberIn r ⌝ }
+{
+    match r {
+        Refusal::Plain(number) => number,
+        Refusal::AtRow(number, _) => number,
+    }
+}
+
+// The row of a refusal, 0 where it has none.
+fn row_of(r: Refusal) -> u32
+    ensures { λ n. ⌜ n ≡ rowIn r ⌝ }
+{
+    match r {
+        Refusal::Plain(_) => 0,
+        Refusal::AtRow(_, row) => row,
+    }
+}
+
+// A sheet read or judged.
+pub(crate) fn tell_sheet(answer: SheetAnswer) -> SheetTold
+    ensures { λ r. ⌜ r ≡ flatSheet (paperSheet answer) ⌝ }
+{
+    match answer {
+        SheetAnswer::Good => SheetTold { refusal: 0, row: 0 },
+        SheetAnswer::Refused(r) => SheetTold {
+            refusal: number_of(r),
+            row: row_of(r),
+        },
+    }
+}
+
+// A temperature with its rest.
+pub(crate) fn tell_temperature(answer: TemperatureAnswer) -> TemperatureTold
+    ensures { λ r. ⌜ r ≡ flatTemperature (paperTemperature answer) ⌝ }
+{
+    match answer {
+        TemperatureAnswer::At(t, rest) => TemperatureTold {
+            refusal: 0,
+            row: 0,
+            millikelvin: t.0,
+            rest: rest.0,
+        },
+        TemperatureAnswer::Refused(r) => TemperatureTold {
+            refusal: number_of(r),
+            row: row_of(r),
+            millikelvin: 0,
+            rest: 0,
+        },
+    }
+}
+
+// A temperature of air with its rest.
+pub(crate) fn tell_psi(answer: PsiAnswer) -> PsiTold
+    ensures { λ r. ⌜ r ≡ flatPsi (paperPsi answer) ⌝ }
+{
+    match answer {
+        PsiAnswer::At(t, rest) => PsiTold {
+            refusal: 0,
+            row: 0,
+            millikelvin: t.0,
+            rest,
+        },
+        PsiAnswer::Refused(r) => PsiTold {
+            refusal: number_of(r),
+            row: row_of(r),
+            millikelvin: 0,
+            rest: 0,
+        },
+    }
+}
+
+// A walk that began: 0 or the number of the refused step, the steps done, the charge and the temperature.
+fn tell_begun(refusal: u32, steps: u32, charge: Charge, t: Millikelvin) -> WalkTold
+    ensures { λ r. ⌜ r ≡ flatBegun refusal steps charge (t .0) ⌝ }
+{
+    WalkTold {
+        refusal,
+        row: 0,
+        begun: 1,
+        steps,
+        air: charge.air,
+        carbon: charge.carbon,
+        hydrogen: charge.hydrogen,
+        millikelvin: t.0,
+    }
+}
+
+// A walk done, stopped or refused at its start.
+pub(crate) fn tell_walk(answer: WalkAnswer) -> WalkTold
+    ensures { λ r. ⌜ r ≡ flatWalk (paperWalk answer) ⌝ }
+{
+    match answer {
+        WalkAnswer::Done(steps, charge, t) => tell_begun(0, steps, charge, t),
+        WalkAnswer::Stopped(steps, number, charge, t) => tell_begun(number, steps, charge, t),
+        WalkAnswer::Refused(r) => WalkTold {
+            refusal: number_of(r),
+            row: row_of(r),
+            begun: 0,
+            steps: 0,
+            air: 0,
+            carbon: 0,
+            hydrogen: 0,
+            millikelvin: 0,
+        },
+    }
+}
+
+// A station's figures.
+pub(crate) fn tell_station(answer: StationAnswer) -> StationTold
+    ensures { λ r. ⌜ r ≡ flatStation (paperStation answer) ⌝ }
+{
+    match answer {
+        StationAnswer::Is(figures) => StationTold {
+            refusal: 0,
+            row: 0,
+            millikelvin: figures.millikelvin,
+            content: figures.content,
+            mass: figures.mass,
+        },
+        StationAnswer::Refused(r) => StationTold {
+            refusal: number_of(r),
+            row: row_of(r),
+            millikelvin: 0.0,
+            content: 0.0,
+            mass: 0.0,
+        },
+    }
+}
+
+// A typed answer by the number of its kind: 0 kelvins, 1 a specific content, else blank.
+pub(crate) fn typed_of(kind: u32, number: f64) -> Typed
+    ensures { λ r. ⌜ r ≡ typedOf kind number ⌝ }
+{
+    if kind == 0 {
+        return Typed::Kelvins(number);
+    }
+    if kind == 1 {
+        return Typed::Content(number);
+    }
+    Typed::Blank
+}
+
+// A mark.
+pub(crate) fn tell_mark(answer: MarkAnswer) -> MarkTold
+    ensures { λ r. ⌜ r ≡ flatMark (paperMark answer) ⌝ }
+{
+    match answer {
+        MarkAnswer::Counts => MarkTold {
+            refusal: 0,
+            row: 0,
+            counts: 1,
+        },
+        MarkAnswer::Misses => MarkTold {
+            refusal: 0,
+            row: 0,
+            counts: 0,
+        },
+        MarkAnswer::Refused(r) => MarkTold {
+            refusal: number_of(r),
+            row: row_of(r),
+            counts: 0,
+        },
+    }
+}

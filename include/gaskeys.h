@@ -1,0 +1,143 @@
+/* The calls of the gas keys, for C and for whatever calls C.
+ *
+ * Link target/staticlib/libcapi.a, which `rt staticlib capi` writes: it needs no other library, not even the C library.
+ *
+ * Every call takes every input and never fails otherwise than by a refusal. What each one answers is proved: crates/capi has the promises,
+ * docs/PROMISES.md where they are proved, bindings/c/example.c how the calls are used.
+ *
+ * UNITS
+ *   temperature        thousandths of a kelvin (mK), 200,000 to 2,000,000
+ *   gas heat, rest     mg times 0.00001 C.H.U./lb
+ *   charge             air in parts of 100 g, 1 to 100,000; carbon in moles, hydrogen in moles of atoms, 0 to 50,000 each;
+ *                      lean: 32000 carbon + 8000 hydrogen is at most 23186 air
+ *   sheet              5,403 numbers, O2, CO2 and H2O of 200 K first, then of 201 K and so on to 2,000 K, in hundredths of C.H.U./lb
+ *                      above 0 K, 0 to 200,000. From each kelvin to the next no gas falls and O2 rises by at most four times the rise of air
+ *   psi                0.0000001
+ *   looks              whole kelvins that the search looked at, in their order; no look is 0, so the unused places are those with 0
+ *
+ * REFUSALS: `refusal` is 0 or one of these numbers. A call gives the first that holds, in the order that stands beside it.
+ *   1   the sheet list is not 5,403 long
+ *   2   the sheet text breaks its form; `row` is its first bad row, 0 to 1,800, or 1,801 for bytes past the end
+ *   3   the sheet list has a value over 200,000 or breaks the step rule; `row` is the first bad row
+ *   4   air, carbon or hydrogen outside its limit, or atoms added negative
+ *   5   not lean
+ *   6   temperature outside its range
+ *   7   calorific value or plain heat outside its range
+ *   8   target below the value at 200 K
+ *   9   target above the value at 2,000 K
+ *   10  a lent list is too short
+ *   11  the typed answer is blank, infinite or not a number
+ *   12  window or key outside its range
+ *   13  the list of steps is no multiple of four long, or over 256
+ * `row` is 0 where there is none, and every field that a case does not have is 0.
+ *
+ * LISTS are lent as a pointer and a length in elements. A pointer is not null and is aligned, also where its length is 0, and a list that is written overlaps no
+ * other list of the same call. A refusal changes no lent place, but for a walk that a step stops, as said there. Nothing past the given length is read or written,
+ * nothing is kept after a call, and there is no state: any number of threads may call at the same time.
+ */
+#ifndef GASKEYS_H
+#define GASKEYS_H
+
+#include <stddef.h>
+#include <stdint.h>
+
+#ifdef __cplusplus
+extern "C" {
+#endif
+
+/* ---- the gas sheet ---- */
+
+typedef struct {
+    uint32_t refusal;
+    uint32_t row;
+} gaskeys_sheet_told;
+
+/* Reads the text of a sheet into `list`: 1,801 lines, each kelvin, O2, CO2 and H2O parted by one tab and ended by one line feed.
+ * It judges the form of the text and not the step rule.
+ * Refusals: 1, 2. Leaves: all 5,403 places written, or with a refusal none. */
+gaskeys_sheet_told gaskeys_read_sheet(const uint8_t *text, size_t text_length, uint32_t *list, size_t list_length);
+
+/* Judges a sheet list, as every call below that takes a sheet does first.
+ * Refusals: 1, 3. */
+gaskeys_sheet_told gaskeys_judge_sheet(const uint32_t *list, size_t list_length);
+
+/* ---- temperatures ---- */
+
+typedef struct {
+    uint32_t refusal;
+    uint32_t row;
+    int64_t millikelvin;
+    int64_t rest; /* the target less the gas heat at millikelvin */
+} gaskeys_temperature_told;
+
+/* The greatest temperature at which the gas of a charge holds no more heat than the target, a gas heat above 0 K.
+ * Refusals: 1, 3, 10 (fewer than 11 looks), 4, 5, 8 or 9. Leaves: the looks in the first eleven places, 0 where unused, later places as they were. */
+gaskeys_temperature_told gaskeys_temperature(int64_t air, int64_t carbon, int64_t hydrogen, int64_t target, const uint32_t *sheet, size_t sheet_length,
+                                             uint32_t *looks, size_t looks_length);
+
+typedef struct {
+    uint32_t refusal;
+    uint32_t row; /* always 0 */
+    int64_t millikelvin;
+    uint64_t rest; /* the target less psi at millikelvin */
+} gaskeys_psi_told;
+
+/* The greatest temperature at which psi of air is at most the target.
+ * Refusals: 10 (fewer than 11 looks), 8 or 9. Leaves: the looks as above. */
+gaskeys_psi_told gaskeys_psi_inverse(int64_t target, uint32_t *looks, size_t looks_length);
+
+/* ---- the walk ---- */
+
+typedef struct {
+    uint32_t refusal; /* 0: done. With begun 1, the refusal of the step that stopped the walk; with begun 0, that of the start */
+    uint32_t row;
+    uint32_t begun; /* 1 where the walk got past its start */
+    uint32_t steps; /* the steps that were done */
+    int64_t air;    /* the charge and the temperature after those steps */
+    int64_t carbon;
+    int64_t hydrogen;
+    int64_t millikelvin;
+} gaskeys_walk_told;
+
+/* Walks a charge from a temperature over up to 64 steps, four numbers each: carbon added, hydrogen added, calorific value in hundredths of C.H.U./lb (0 to 5,000,000)
+ * and plain heat (-10^18 to 10^18). For n steps the temperatures and the rests have n places or more, the looks 11 n.
+ * Refusals of the start: 1, 3, 13, 10, 4, 5, 6; of a step: 4, 7, 5, 8 or 9.
+ * Leaves: step i, from 0 on, that was done has its temperature and its rest in place i and its looks in the eleven places from 11 i on, 0 where unused. The places of
+ * a step that was refused and of later ones, and all places past the steps, are as they were. */
+gaskeys_walk_told gaskeys_walk(int64_t air, int64_t carbon, int64_t hydrogen, int64_t millikelvin, const uint32_t *sheet, size_t sheet_length, const int64_t *steps,
+                               size_t steps_length, int64_t *temperatures, size_t temperatures_length, int64_t *rests, size_t rests_length, uint32_t *looks,
+                               size_t looks_length);
+
+/* ---- figures and marks ---- */
+
+typedef struct {
+    uint32_t refusal;
+    uint32_t row;
+    double millikelvin; /* whole numbers all three, below 2^53 in size: the difference of two like figures is exact */
+    double content;     /* specific content above 15 degrees C, in 0.00001 C.H.U./lb */
+    double mass;        /* total mass in mg */
+} gaskeys_station_told;
+
+/* The figures of a charge at a temperature.
+ * Refusals: 1, 3, 4, 5, 6. */
+gaskeys_station_told gaskeys_station(int64_t air, int64_t carbon, int64_t hydrogen, int64_t millikelvin, const uint32_t *sheet, size_t sheet_length);
+
+enum { GASKEYS_KELVINS = 0, GASKEYS_CONTENT = 1, GASKEYS_BLANK = 2 };
+
+typedef struct {
+    uint32_t refusal;
+    uint32_t row;    /* always 0 */
+    uint32_t counts; /* 1 where the answer counts */
+} gaskeys_mark_told;
+
+/* Marks a typed answer: kelvins, or a specific content in C.H.U./lb. With scale 1,000 or 100,000 it counts exactly if |scale * number - key| is at most the window, for
+ * the exact value of the number. A blank has no number, and what is passed for it is not read; a kind that is neither GASKEYS_KELVINS nor GASKEYS_CONTENT is a blank.
+ * Key -10^12 to 10^12, window 0 to 100,000, both in thousandths of a kelvin or 0.00001 C.H.U./lb.
+ * Refusals: 12, 11. */
+gaskeys_mark_told gaskeys_mark(uint32_t kind, double number, int64_t key, int64_t window);
+
+#ifdef __cplusplus
+}
+#endif
+
+#endif
