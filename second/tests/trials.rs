@@ -58,10 +58,8 @@ fn further_forms() {
     assert_eq!(reply("sheet 1 5403 4 1800 200000"), "ok");
     assert_eq!(reply("gas-heat 3 1 0 200000"), "ok 1432800000000");
     assert_eq!(reply("gas-heat 3 1 0 201000"), "ok 10242200000000");
-    assert_eq!(
-        reply("figures 3 1 4 288160"),
-        "ok x4111968000000000 x0000000000000000 x41134a2c00000000"
-    );
-    assert_eq!(reply("grid kelvins x0000000000000000 1 -1 3 0"), "ok 1 2 0 31");
-    assert_eq!(reply("grid content x7ff0000000000000 2 0 1 0"), "ok 0 0 2 352");
+    let [mk, mass] = [0x4111_9680_0000_0000_u64, 0x4113_4a2c_0000_0000];
+    assert_eq!(reply("figures 3 1 4 288160"), format!("ok {mk} 0 {mass}"));
+    assert_eq!(reply("grid 0 0 0 1 -1 3 0"), "ok 1 2 0 31");
+    assert_eq!(reply(&format!("grid 1 {} 0 2 0 1 0", 0x7ff0_0000)), "ok 0 0 2 352");
 }
