@@ -12,7 +12,7 @@ use lib.IntN.{ℤ, pos, _+ℤ_, _-ℤ_}
 use lib.ListN.{length}
 use lib.Signed.{_≤ℤ_, _<ℤ_}
 use Rattle.signed.specs.Zed.{up, dn, Is, is-pos, is-self, is-add, is-minus, same-by, le-by, lt-by, le-from, lt-from, leZ-true, leZ-false, lt-parts, le-parts, yes-leZ, no-leZ, eqZ, yes-eqZ, no-eqZ, zed}
-use Rattle.rows.specs.Growth.{grows}
+use Rattle.rows.specs.GrowthLaws.{grows}
 use Rattle.air.specs.Halving.{highest, halving}
 use Rattle.air.specs.HalvingLaws.{highest-is, highest-passes, highest-least, highest-most, highest-above, Kept, kept, at-least-ten, at-most-eleven}
 use Rattle.air.specs.Inverse.{fits, temperature, rest, looks, written, Straight}

@@ -39,6 +39,12 @@ abbrev pub first : {A : Type 0} → List Line → A → Told A
 first [] a = gives a
 first (l ∷ ls) a = cond (condition l) (toldBy l) (first ls a)
 
+-- what is told and, if it is no refusal, what is told of its values
+abbrev pub andThen : {A B : Type 0} → Told A → (A → Told B) → Told B
+andThen (gives a) f = f a
+andThen (refuses n) f = refuses n
+andThen (refusesRow n r) f = refusesRow n r
+
 -- the line is the first of its order: its condition holds, and no condition before it does
 pub data First : List Line → Line → Type 0 where
   here : {l : Line} {ls : List Line} → condition l ≡ true → First (l ∷ ls) l

@@ -1,7 +1,7 @@
 -- Demand 1, over any order of refusals: a call tells refusal n exactly when n's condition holds and none before it does, and gives its values
 -- exactly when no condition holds. Every entry's promise is an equation with `first`, so this law speaks of each. Assumes nothing.
 use mathlib.Core.Path.{_≡_, refl, sym, ap, _∙_}
-use mathlib.Core.Bool.{Bool, true, false}
+use mathlib.Core.Bool.{Bool, true, false, _||_}
 use mathlib.Core.List.{List, [], _∷_}
 use mathlib.Core.Logic.{_⊎_, inl, inr, ⊎-elim}
 use Prim.Native.Nat.{ℕ}
@@ -12,6 +12,11 @@ use Rattle.air.specs.Refusals.{Told, gives, Line, _when_, _on-row_when_,
 pub by-bool {ℓ} : {X : Type ℓ} (b : Bool) → (b ≡ true → X) → (b ≡ false → X) → X
 by-bool true f g = f refl
 by-bool false f g = g refl
+
+-- a test of two that fails: both fail
+pub neither : (a b : Bool) → a || b ≡ false → (a ≡ false) × (b ≡ false)
+neither true b e = absurd (let z : _≡_ {A = ℕ} 0 1 = cc in omega arith)
+neither false b e = (refl, e)
 
 -- an order has a first line whose condition holds, or none
 pub first-or-clear : (ls : List Line) → ((l : Line) × First ls l) ⊎ Clear ls

@@ -1,19 +1,19 @@
 -- The fields of a line one by one, and their numbers. Assumes nothing.
-use Prim.Native.Nat.{ℕ, zero, suc, _+_, _*_, _-_, _≤_, _<_}
-use mathlib.Core.Path.{_≡_, refl, sym, _∙_, ap, subst}
+use Prim.Native.Nat.{ℕ, zero, suc, _+_, _-_, _≤_, _<_}
+use mathlib.Core.Path.{_≡_, refl, sym, _∙_, ap}
 use mathlib.Core.Bool.{Bool, true, false, cond, true≢false}
 use mathlib.Core.List.{List, [], _∷_, _++_, append-nil}
 use native.Mathlib.Omega.{arith}
 use native.Mathlib.Numerals.{add-one}
 use borrow.Author.Tests.{eqb-true, le-leb, lt-leb, lt-ltb, le-ltb, eq-eqb, ne-eqb, ltb-true, ltb-false}
 use lib.Dec.{ltb, leb, eqb}
-use lib.ListN.{length, take, drop, getD, set, length-drop, length-set}
+use lib.ListN.{length, take, drop, getD, set, length-drop}
 use lib.Seq.{sets, sets-eq, drop-cons, drop-drop}
-use lib.IntN.{ℤ, pos}
+use lib.IntN.{ℤ}
 use Rattle.text.specs.Reading.{wholeOf}
 use Rattle.text.specs.declared.Whole.{Whole}
 use Rattle.text.specs.declared.Whole.the-variants.{Is, Not}
-use Rattle.fields.specs.Fields.{spanOf, onHead, fieldsOf, fieldsFrom, valueOf, valuesOf, countNext, countAll, Stored, isCount}
+use Rattle.fields.specs.Fields.{spanOf, onHead, fieldsOf, fieldsFrom, valuesOf, countNext, countAll, Stored, isCount}
 use Rattle.fields.specs.declared.Numbers.{Numbers}
 use Rattle.fields.specs.declared.Numbers.the-variants.{Count, Bad}
 

@@ -21,7 +21,7 @@ use Rattle.signed.specs.Zed.{up, dn, Is, is-self, is-minus, is-neg, is-pos, up-
 use Rattle.rows.specs.Rows.{rowsH}
 use Rattle.rows.specs.Table.{column, airH}
 use Rattle.rows.specs.TableLaws.{H-grows}
-use Rattle.rows.specs.Growth.{grows}
+use Rattle.rows.specs.GrowthLaws.{grows}
 use Rattle.air.specs.Readings.{reading, between, airHeat, NeverFalls}
 use Rattle.air.specs.ReadingsLaws.{between-line, grows-on}
 use Rattle.air.specs.InverseLaws.{rises-on}

@@ -1,4 +1,5 @@
 pub mod Rows
 pub mod Table
 pub mod Growth
+pub mod GrowthLaws
 pub mod TableLaws

@@ -14,7 +14,8 @@ use lib.IntN.{ℤ, pos, negsuc, _-ℤ_}
 use lib.ListN.{length, getD, List·getD-eq-default}
 use Rattle.rows.specs.Rows.{rowsH, rowsPsi, rowsH15}
 use Rattle.rows.specs.Table.{column, airH, airPsi, airH15}
-use Rattle.rows.specs.Growth.{growing, growing-at, each2, each2-at, grows}
+use Rattle.rows.specs.Growth.{growing, each2}
+use Rattle.rows.specs.GrowthLaws.{growing-at, each2-at, grows}
 
 is : ℕ → ℤ → Bool
 is n (pos m) = eqb m n

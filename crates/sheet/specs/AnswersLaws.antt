@@ -1,22 +1,22 @@
 -- What is told by the reader and by the judge: a text is read as a list exactly where it is the sheet of that list, and a list is good exactly where it is an
 -- accepted sheet. Assumes nothing.
 use borrow.Author.Tests.{eqb-true, ltb-false, lt-ltb, le-ltb, eq-eqb, ne-eqb}
-use mathlib.Core.Path.{_≡_, refl}
+use mathlib.Core.Path.{_≡_, refl, sym}
 use mathlib.Core.Bool.{Bool, true, false, not}
 use mathlib.Core.List.{List, [], _∷_, _++_}
 use Prim.Native.Nat.{ℕ, _≤_, _<_}
 use native.Mathlib.Omega.{arith}
 use lib.Dec.{ltb, eqb}
 use lib.ListN.{length}
-use Rattle.air.specs.declared.Refusal.the-variants.{Plain, AtRow}
 use Rattle.air.specs.Refusals.{gives, refuses, refusesRow, refused, Line, _when_, _on-row_when_, first}
 use Rattle.air.specs.declared.Refusal.{Refusal}
+use Rattle.air.specs.OrdersLaws.{stopped}
 use Rattle.sheet.specs.declared.SheetAnswer.{SheetAnswer}
 use Rattle.sheet.specs.declared.SheetAnswer.the-variants.{Good, Refused}
 use Rattle.sheet.specs.Text.{sheetText, Numbers, Sheet}
 use Rattle.sheet.specs.OneOutcome.{one-read_sheet}
 use Rattle.sheet.specs.Answers.{paper, Form, sheetOf, noSheet, breaks, badRowOf, numbersOf, SheetRead, sheetLines, judgeTold}
-use Rattle.sheet.specs.Sheet.{notLong, firstBadRow, Accepted}
+use Rattle.sheet.specs.Sheet.{firstBadRow, Accepted}
 use Rattle.sheet.specs.SheetLaws.{no-bad-row, rows-before}
 
 -- ---- a text is read as a list exactly where it is the sheet of that list
@@ -59,12 +59,4 @@ pub past-sheet : {A : Type 0} {s : List ℕ} (ls : List Line) (a : A) → Accept
 past-sheet {s} ls a h = rw (eq-eqb (length s) 5403 (h .long), no-bad-row s (h .noBadRow)) refl
 
 pub stopped-by-sheet : {A : Type 0} (s : List ℕ) (r : Refusal) (ls : List Line) (a : A) → paper (Refused r) ≡ judgeTold s → first (sheetLines s ++ ls) a ≡ refused r
-stopped-by-sheet {A} s r ls a e = go (notLong s) (ltb (firstBadRow s) 1801) r e
-  where
-    go : (x y : Bool) (r : Refusal) → refused r ≡ first (1 when x ∷ 3 on-row firstBadRow s when y ∷ []) (tt {0}) → first {A = A} (1 when x ∷ 3 on-row firstBadRow s when y ∷ ls) a ≡ refused r
-    go true y (Plain n) e = let q : 1 ≡ n = cc in rw q refl
-    go true y (AtRow n m) e = absurd (let z : _≡_ {A = ℕ} 0 1 = cc in omega arith)
-    go false true (Plain n) e = absurd (let z : _≡_ {A = ℕ} 0 1 = cc in omega arith)
-    go false true (AtRow n m) e = let p : 3 ≡ n = cc in let q : firstBadRow s ≡ m = cc in rw (p, q) refl
-    go false false (Plain n) e = absurd (let z : _≡_ {A = ℕ} 0 1 = cc in omega arith)
-    go false false (AtRow n m) e = absurd (let z : _≡_ {A = ℕ} 0 1 = cc in omega arith)
+stopped-by-sheet s r ls a e = sym (stopped (sheetLines s) ls tt a r e)

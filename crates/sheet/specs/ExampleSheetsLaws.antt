@@ -16,7 +16,7 @@ use Rattle.sheet.specs.AnswersLaws.{told-row}
 use Rattle.sheet.specs.Sheet.{o2, co2, h2o, overLimit, rise, breaksStep, badRow, Accepted}
 use Rattle.sheet.specs.SheetLaws.{first-bad-found, over-no, step-kept, steep-breaks}
 use Rattle.sheet.specs.ExampleSheets.{laidFrom, laid, level, flat, steepest, oneMore}
-use Rattle.rows.specs.Growth.{grows}
+use Rattle.rows.specs.GrowthLaws.{grows}
 
 -- ---- a sheet laid by its columns has them
 laid-length : (gas : ℕ → ℕ → ℕ) (n k : ℕ) → length (laidFrom gas n k) ≡ 3 * n

@@ -1,8 +1,8 @@
 -- A typed number as text (docs/PROGRAM.md): digits with an optional minus sign and an optional point, at most 15 of them significant and at most 22 after the point,
 -- read as one division rounds; or `x` and the 16 hexadecimal digits of a bit pattern. That w.f with k decimals is read as w·10^k + f over 10^k is in TypedLaws.antt.
-use Prim.Native.Nat.{ℕ, zero, suc, _+_, _*_, _-_, _<_, _^_}
+use Prim.Native.Nat.{ℕ, _+_, _*_, _-_, _<_, _^_}
 use mathlib.Core.Bool.{Bool, true, false, _&&_, cond}
-use mathlib.Core.List.{List, [], _∷_}
+use mathlib.Core.List.{List}
 use lib.Dec.{ltb, leb, eqb}
 use lib.ListN.{drop, getD, length}
 use lib.IntN.{pos}

@@ -5,11 +5,9 @@ use mathlib.Core.Bool.{Bool, true, false}
 use mathlib.Core.List.{List, [], _∷_, _++_}
 use native.Mathlib.Omega.{arith}
 use borrow.Author.Tests.{le-leb, lt-leb, ne-eqb}
-use Rattle.text.specs.Fold.{run}
 use Rattle.text.specs.FoldLaws.{Runs, and-then}
 use Rattle.text.specs.Decimal.{decimal}
 use Rattle.text.specs.DecimalLaws.{digits-run}
-use Rattle.text.specs.Reading.{isDigit}
 use Rattle.text.specs.ReadingLaws.{is-digit}
 use Rattle.typed.specs.Typed.{takes, firstPart, nextWhole, nextFraction, stepPart, partOf}
 use Rattle.typed.specs.declared.Part.{Part}

@@ -12,7 +12,7 @@ use mir.Syntax.{w64}
 use mir.Val.{SFits}
 use Rattle.signed.specs.Zed.{up, dn, apart, Is, is-pos, is-self, is-add, is-minus, is-mul, fits-from, up-most, dn-most, in-range, outside, outside-over, not-outside, no-ltZ, ltZ-false, zed}
 use Rattle.air.specs.Refusals.{gives, refuses, _when_, first}
-use Rattle.air.specs.RefusalsLaws.{by-bool}
+use Rattle.air.specs.RefusalsLaws.{by-bool, neither}
 use Rattle.gas.specs.declared.Gas.{Gas}
 use Rattle.gas.specs.Burning.{document01, Limits, beyond, fuelMass}
 use Rattle.walk.specs.declared.Step.{Step}
@@ -53,10 +53,6 @@ module _ (have : ℕ) (more : ℤ) where
   count-right d h = rw (no-ltZ more (pos 0) (omega arith), not-outside (pos 0) (pos 50000) (pos have +ℤ more) (omega (arith, sum-is)) (omega (arith, sum-is))) refl
 
   -- a count that is right
-  or-false : (a b : Bool) → a || b ≡ false → (a ≡ false) × (b ≡ false)
-  or-false true b e = absurd (let z : _≡_ {A = ℕ} 0 1 = cc in omega arith)
-  or-false false b e = (refl, e)
-
   pub record Right : Type 0 where
     pub plain-more : dn more ≡ 0
     pub sum-most : have + up more ≤ 50000
@@ -64,7 +60,7 @@ module _ (have : ℕ) (more : ℤ) where
 
   pub right : wrongCount have more ≡ false → Right
   right e =
-      let h = or-false (ltZ more (pos 0)) (outside (pos 0) (pos 50000) (pos have +ℤ more)) e in
+      let h = neither (ltZ more (pos 0)) (outside (pos 0) (pos 50000) (pos have +ℤ more)) e in
       let k = in-range (pos 0) (pos 50000) (pos have +ℤ more) (not-false _ (h .1)) in
       let d : dn more ≡ 0 = omega (zed, apart more, ltZ-false more (pos 0) (h .0)) in
       let u : up (pos have +ℤ more) ≡ have + up more = omega (zed, sum-is, apart (pos have +ℤ more), k .least) in
@@ -105,7 +101,7 @@ module _ (g : Gas) (p : Step) (l : Limits document01 g) where
   -- a step whose atoms are right
   module _ (e : wrongAtoms document01 g p ≡ false) where
     counts : (wrongCount (g .carbon) (p .carbon) ≡ false) × (wrongCount (g .hydrogen) (p .hydrogen) ≡ false)
-    counts = or-false 0 (pos 0) (wrongCount (g .carbon) (p .carbon)) (wrongCount (g .hydrogen) (p .hydrogen)) (sym atoms-are ∙ e)
+    counts = neither (wrongCount (g .carbon) (p .carbon)) (wrongCount (g .hydrogen) (p .hydrogen)) (sym atoms-are ∙ e)
 
     pub carbon-right : Right (g .carbon) (p .carbon)
     carbon-right = right (g .carbon) (p .carbon) (counts .0)
@@ -135,7 +131,7 @@ module _ (g : Gas) (p : Step) (l : Limits document01 g) where
 -- ---- what a step brings
 module _ (p : Step) (w : wrongHeat p ≡ false) where
   ranges : (outside (pos 0) (pos 5000000) (p .value) ≡ false) × (outside (negℤ (pos 1000000000000000000)) (pos 1000000000000000000) (p .heat) ≡ false)
-  ranges = or-false 0 (pos 0) (outside (pos 0) (pos 5000000) (p .value)) (outside (negℤ (pos 1000000000000000000)) (pos 1000000000000000000) (p .heat)) w
+  ranges = neither (outside (pos 0) (pos 5000000) (p .value)) (outside (negℤ (pos 1000000000000000000)) (pos 1000000000000000000) (p .heat)) w
 
   value-most : (dn (p .value) ≡ 0) × (up (p .value) ≤ 5000000)
   value-most =

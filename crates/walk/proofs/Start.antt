@@ -13,7 +13,7 @@ use Rattle.air.specs.declared.Millikelvin.{Millikelvin}
 use Rattle.air.specs.declared.Refusal.{Refusal}
 use Rattle.air.specs.declared.Refusal.the-variants.{Plain, AtRow}
 use Rattle.air.specs.Refusals.{Told, gives, refused, Line, first, Clear, clear, none}
-use Rattle.air.specs.RefusalsLaws.{gives-clear, values-given}
+use Rattle.air.specs.RefusalsLaws.{neither, gives-clear, values-given}
 use Rattle.sheet.specs.Sheet.{Accepted}
 use Rattle.sheet.specs.Answers.{sheetLines, judgeTold, paper}
 use Rattle.sheet.specs.AnswersLaws.{past-sheet, stopped-by-sheet}
@@ -41,11 +41,7 @@ walks-as {t} {q} {t′} {q′} {l} {l′} {a} e h = subst (λ (x : Told Trace). 
 
 -- a list of steps that is right has at most 64
 pub few-steps : (n : ℕ) → wrongSteps n ≡ false → n / 4 ≤ 64
-few-steps n e = omega (arith, ltb-false 256 n (or-right (not (eqb (n % 4) 0)) (ltb 256 n) e))
-  where
-    or-right : (a b : Bool) → a || b ≡ false → b ≡ false
-    or-right true b h = absurd (let z : _≡_ {A = ℕ} 0 1 = cc in omega arith)
-    or-right false b h = h
+few-steps n e = omega (arith, ltb-false 256 n (neither (not (eqb (n % 4) 0)) (ltb 256 n) e .1))
 
 -- lists that are long enough
 pub record Long (n temperatures rests looks : ℕ) : Type 0 where

@@ -1,6 +1,5 @@
 -- Demand 3 proved, over any weights, of every outcome that satisfies the promise of a walk. Assumes nothing.
 use mathlib.Core.Path.{_≡_, refl, sym, ap, ap₂, _∙_}
-use mathlib.Core.Bool.{Bool, true, false, _||_}
 use mathlib.Core.List.{List, [], _∷_, _++_, map, append-assoc}
 use Prim.Native.Nat.{ℕ, zero, suc, _+_, _*_, _/_, _<_, _≤_}
 use native.Mathlib.Nat.{le-of-suc-le-suc, not-suc-le-zero}
@@ -11,7 +10,7 @@ use lib.Seq.{getD-drop, take-at, drop-at, drop-drop, length-take-le}
 use lib.Signed.{ltZ}
 use Rattle.signed.specs.Zed.{up, is-pos, is-self, is-add, is-minus, lt-by, zed}
 use Rattle.air.specs.Refusals.{Told, gives, refuses, refusesRow, Line, Clear, clear, none as nothing}
-use Rattle.air.specs.RefusalsLaws.{gives-clear, values-given}
+use Rattle.air.specs.RefusalsLaws.{neither, gives-clear, values-given}
 use Rattle.air.specs.Halving.{eleven}
 use Rattle.air.specs.HalvingLaws.{length-eleven}
 use Rattle.air.specs.Inverse.{rest, looks}
@@ -202,13 +201,9 @@ module _ (w : Weights) (s : List ℕ) (climb : AllClimb w s) (lines : List Line)
       rw (x, y, z, k .0, k .1, k .2) (run-demand-3 w s climb (startState start from) steps t r l)
 
 -- ---- and of every outcome of a walk: one that began has an accepted sheet, on which the heat of every gas that burns rises
-or-false : (a b : Bool) → a || b ≡ false → (a ≡ false) × (b ≡ false)
-or-false true b h = absurd (let z : _≡_ {A = ℕ} 0 1 = cc in omega arith)
-or-false false b h = (refl, h)
-
 pub all-climb : (w : Weights) → Sound w → {s : List ℕ} → Accepted s → AllClimb w s
 all-climb w so ok st p o d =
-    let b = or-false (ltZ (p .hydrogen) (pos 0)) (beyond w (added (st .gas) p)) (or-false (ltZ (p .carbon) (pos 0)) _ (d .atoms) .1) .1 in
+    let b = neither (ltZ (p .hydrogen) (pos 0)) (beyond w (added (st .gas) p)) (neither (ltZ (p .carbon) (pos 0)) _ (d .atoms) .1) .1 in
     gas-rises w so ok (newGas (st .gas) p) (record { limits = limits-of w (added (st .gas) p) b; is-lean = d .burns }) 200000 (omega arith) (omega arith)
 
 module _ (w : Weights) (so : Sound w) (s : List ℕ) (start : Charge) (from : ℤ) (numbers : List ℤ) (t r : List ℤ) (l : List ℕ) where

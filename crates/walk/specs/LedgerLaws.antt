@@ -1,24 +1,26 @@
--- Laws of the ledger: the dearest thousandth is at least every rise and equal to one; what a step takes in is what it holds and its rest; over a run the rests add up
+-- Laws of the ledger: the dearest thousandth is at least every rise and equal to one, and the largest slope of a row; what a step takes in is what it holds and its rest; over a run the rests add up
 -- to the shortfall, each less than its gas's dearest thousandth. Assumes nothing.
 use borrow.Author.Tests.{ltb-true, ltb-false}
-use mathlib.Core.Path.{_≡_, refl, ap}
+use mathlib.Core.Path.{_≡_, refl, sym, _∙_, ap}
 use mathlib.Core.List.{List, [], _∷_, map}
 use mathlib.Core.Logic.{⊎-elim}
-use Prim.Native.Nat.{ℕ, zero, suc, _+_, _<_, _≤_}
-use native.Mathlib.Nat.{eq-or-lt-of-le}
+use Prim.Native.Nat.{ℕ, zero, suc, _+_, _*_, _/_, _%_, _<_, _≤_}
+use native.Mathlib.Nat.{eq-or-lt-of-le, suc-mul}
 use native.Mathlib.Omega.{arith}
 use lib.Dec.{ltb}
 use lib.IntN.{ℤ, pos, _+ℤ_, _-ℤ_}
 use lib.ListN.{length, take}
 use lib.Signed.{_≤ℤ_, _<ℤ_}
-use Rattle.signed.specs.Zed.{apart, is-pos, is-self, is-add, is-minus, same-by, le-by, zed, le-parts, lt-parts}
+use Rattle.signed.specs.Zed.{up, apart, is-pos, is-self, is-add, is-minus, same-by, le-by, zed, le-parts, lt-parts}
 use Rattle.air.specs.Refusals.{gives}
 use Rattle.air.specs.RefusalsLaws.{by-bool}
 use Rattle.air.specs.Inverse.{temperature, rest}
 use Rattle.air.specs.InverseLaws.{temperature-least, temperature-most, rest-least, next-exceeds}
 use Rattle.gas.specs.declared.Gas.{Gas}
-use Rattle.gas.specs.Burning.{Weights}
-use Rattle.gas.specs.Heat.{gasHeat}
+use Rattle.sheet.specs.Sheet.{Accepted}
+use Rattle.gas.specs.Burning.{Weights, Sound, Burns}
+use Rattle.gas.specs.Heat.{massesOf, heatSlope, gasHeat}
+use Rattle.gas.specs.HeatLaws.{heat-line, air-outweighs}
 use Rattle.walk.specs.declared.Step.{Step}
 use Rattle.walk.specs.Step.{State, Out, held, newGas, stepHeat, askedOf, judge}
 use Rattle.walk.specs.Walk.{Trace, ended, cut, more, run, restsOf}
@@ -60,6 +62,34 @@ dearest-least w s g T l u = largest-most (rise (gasHeat w s g)) 1800000 200000 T
 pub dearest-is-one : (w : Weights) (s : List ℕ) (g : Gas) → OneOf (rise (gasHeat w s g)) 200000 2000000 (dearest w s g)
 unfolding dearest
 dearest-is-one w s g = largest-one (rise (gasHeat w s g)) 1799999 200000
+
+-- ---- the heat of a gas that burns runs straight, so its dearest thousandth is the largest slope of a row
+module _ (w : Weights) (sound : Sound w) {s : List ℕ} (ok : Accepted s) (g : Gas) (b : Burns w g) where
+  abbrev slope : ℕ → ℕ
+  slope k = heatSlope (massesOf w g) s k
+
+  rise-at : (k f : ℕ) → 200 ≤ k → k < 2000 → f < 1000 → rise (gasHeat w s g) (1000 * k + f) ≡ slope k
+  rise-at k f l u h =
+      let t = air-outweighs w sound g b in
+      let here = heat-line (massesOf w g) t ok k l u f (omega arith) in
+      let e : suc (1000 * k + f) ≡ 1000 * k + suc f = omega arith in
+      let next = heat-line (massesOf w g) t ok k l u (suc f) (omega arith) in
+      let base = is-self (gasHeat w s g (1000 * k)) in
+      rw (e, here, next) (ap up (same-by (is-minus (is-add base (is-pos (suc f * slope k))) (is-add base (is-pos (f * slope k)))) (is-pos (slope k)) (omega (arith, suc-mul f (slope k)))))
+
+  rise-is : (T : ℕ) → 200000 ≤ T → T < 2000000 → rise (gasHeat w s g) T ≡ slope (T / 1000)
+  rise-is T l u =
+      let e : 1000 * (T / 1000) + T % 1000 ≡ T = omega arith in
+      ap (rise (gasHeat w s g)) (sym e) ∙ rise-at (T / 1000) (T % 1000) (omega arith) (omega arith) (omega arith)
+
+  pub slope-most : (k : ℕ) → 200 ≤ k → k < 2000 → slope k ≤ dearest w s g
+  slope-most k l u =
+      omega (arith, rise-at k 0 l u (omega arith), dearest-least w s g (1000 * k + 0) (omega arith) (omega arith))
+
+  pub dearest-is-slope : OneOf slope 200 2000 (dearest w s g)
+  dearest-is-slope =
+      let o = dearest-is-one w s g in
+      record { place = o .place / 1000; least = omega (arith, o .least); most = omega (arith, o .most); is = o .is ∙ rise-is (o .place) (o .least) (o .most) }
 
 -- ---- one step
 module _ (w : Weights) (s : List ℕ) (st : State) (p : Step) (o : Out) (d : StepDone w s st p o) where

@@ -8,14 +8,14 @@ use native.Mathlib.Omega.{arith}
 use lib.IntN.{ℤ}
 use lib.Signed.{_≤ℤ_}
 use Rattle.signed.specs.Zed.{le-from, ltZ-false}
-use Rattle.air.specs.Refusals.{Told, gives, refuses, refusesRow, Clear, clear}
+use Rattle.air.specs.Refusals.{Told, gives, refuses, refusesRow, andThen, Clear, clear}
 use Rattle.air.specs.RefusalsLaws.{gives-clear}
 use Rattle.air.specs.Inverse.{unreached}
 use Rattle.gas.specs.declared.Gas.{Gas}
 use Rattle.gas.specs.Burning.{Weights, lean}
 use Rattle.gas.specs.Heat.{gasHeat}
 use Rattle.walk.specs.declared.Step.{Step}
-use Rattle.walk.specs.Step.{State, Out, held, newGas, wrongAtoms, wrongHeat, askLines, askedOf, asked, outOf, sought, andThen, judge}
+use Rattle.walk.specs.Step.{State, Out, held, newGas, wrongAtoms, wrongHeat, askLines, askedOf, asked, outOf, sought, judge}
 use Rattle.walk.specs.Walk.{Trace, ended, cut, more, onward, run}
 
 -- ---- a step that is done

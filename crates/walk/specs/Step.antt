@@ -6,7 +6,7 @@ use Prim.Native.Nat.{ℕ, _*_}
 use lib.IntN.{ℤ, pos, negℤ, _+ℤ_, _*ℤ_}
 use lib.Signed.{ltZ}
 use Rattle.signed.specs.Zed.{up, outside}
-use Rattle.air.specs.Refusals.{Told, gives, refuses, refusesRow, Line, _when_, first}
+use Rattle.air.specs.Refusals.{Told, Line, _when_, first, andThen}
 use Rattle.air.specs.Inverse.{temperature, rest, looks, unreached}
 use Rattle.gas.specs.declared.Charge.{Charge}
 use Rattle.gas.specs.declared.Gas.{Gas}
@@ -81,12 +81,6 @@ outOf w s a = record {
 -- the search: 8 or 9, else the temperature from the target
 unfoldable pub sought : Weights → List ℕ → Asked → Told Out
 sought w s a = first (unreached (gasHeat w s (a .gas)) (a .target)) (outOf w s a)
-
--- what is told, and if it is not a refusal, what is told of that
-abbrev pub andThen : {A B : Type 0} → Told A → (A → Told B) → Told B
-andThen (gives a) f = f a
-andThen (refuses n) f = refuses n
-andThen (refusesRow n r) f = refusesRow n r
 
 -- a step judged: 4, 7, 5, then 8 or 9
 unfoldable pub judge : Weights → List ℕ → State → Step → Told Out

@@ -2,8 +2,6 @@ use mathlib.Core.Path.{refl}
 use borrow.Author.Needs.{needs}
 use Rattle.fields.proofs.counted.Statement.{statement}
 use Rattle.fields.proofs.counted.Tie as tie
-use Rattle.fields.proofs.counted.Reads as reads
-use Rattle.fields.proofs.counted.Lts as lts
 
 -- src/lib.rt:80:24
 enum-known-n : tie.Need-enum-known-n

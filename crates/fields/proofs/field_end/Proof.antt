@@ -1,13 +1,11 @@
 use Rattle.fields.specs.FieldsLaws.{span-tab, span-more, span-end}
 use Rattle.fields.specs.Fields.{spanOf}
 use lib.ListN.{length, drop}
-use Prim.Native.Nat.{_+_, _-_, _≤_}
-use mathlib.Core.Path.{_≡_, refl, sym, _∙_, ap, subst}
+use Prim.Native.Nat.{_+_, _-_}
+use mathlib.Core.Path.{_≡_, refl}
 use native.Mathlib.Omega.{arith}
 use Rattle.fields.proofs.field_end.Statement.{statement}
 use Rattle.fields.proofs.field_end.Tie as tie
-use Rattle.fields.proofs.field_end.Reads as reads
-use Rattle.fields.proofs.field_end.Lts as lts
 
 abbrev Inv-loop : tie.InvT-loop
 Inv-loop line from i₀ i = i + spanOf (drop i line) ≡ from + spanOf (drop from line)

@@ -1,10 +1,8 @@
 use Rattle.fields.specs.FieldsLaws.{set-past}
-use mathlib.Core.Path.{_≡_, refl, sym, _∙_, ap, subst}
+use mathlib.Core.Path.{sym}
 use borrow.Author.Needs.{needs}
 use Rattle.fields.proofs.keep.Statement.{statement}
 use Rattle.fields.proofs.keep.Tie as tie
-use Rattle.fields.proofs.keep.Reads as reads
-use Rattle.fields.proofs.keep.Lts as lts
 
 -- src/lib.rt:41:9
 mul-z : tie.Need-mul-z

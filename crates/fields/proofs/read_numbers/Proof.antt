@@ -1,7 +1,7 @@
 use mathlib.Core.List.{[]}
 use Rattle.text.specs.declared.Whole.the-variants.{Is}
 use Rattle.fields.specs.FieldsLaws.{span-from, fields-none, count-next, count-bad, sets-next}
-use Rattle.fields.specs.Fields.{spanOf, fieldsFrom, countAll, valuesOf}
+use Rattle.fields.specs.Fields.{fieldsFrom, countAll, valuesOf}
 use Rattle.text.specs.Reading.{wholeOf}
 use Rattle.signed.specs.Zed.{back}
 use mir.Val.{SFits}
@@ -10,15 +10,10 @@ use lib.Seq.{sets}
 use lib.ListN.{length, drop, take, set, length-set}
 use Prim.Native.Nat.{_+_, _-_, _≤_}
 use borrow.Author.Needs.{needs}
-use mathlib.Core.Path.{_≡_, refl, sym, _∙_, ap, subst}
+use mathlib.Core.Path.{_≡_, refl, sym, _∙_, ap}
 use native.Mathlib.Omega.{arith}
 use Rattle.fields.proofs.read_numbers.Statement.{statement}
 use Rattle.fields.proofs.read_numbers.Tie as tie
-use Rattle.fields.proofs.read_numbers.Reads as reads
-use Rattle.fields.proofs.read_numbers.Lts as lts
-use Rattle.fields.proofs.field_end.Reads as field-end-reads
-use Rattle.fields.proofs.keep.Reads as keep-reads
-use Rattle.text.proofs.read_whole.Reads as read-whole-reads
 
 abbrev Inv-loop : tie.InvT-loop
 Inv-loop line from list₀ p₀ n₀ list p n = (n ≤ p) × (length list ≡ length list₀) × (countAll 0 (fieldsFrom line from) ≡ countAll n (fieldsFrom line p)) × (sets list₀ 0 (valuesOf (fieldsFrom line from)) ≡ sets list n (valuesOf (fieldsFrom line p)))

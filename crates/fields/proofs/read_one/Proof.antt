@@ -11,10 +11,6 @@ use mathlib.Core.List.{List, [], _∷_}
 use borrow.Author.Needs.{needs}
 use Rattle.fields.proofs.read_one.Statement.{statement}
 use Rattle.fields.proofs.read_one.Tie as tie
-use Rattle.fields.proofs.read_one.Reads as reads
-use Rattle.fields.proofs.read_one.Lts as lts
-use Rattle.fields.proofs.counted.Reads as counted-reads
-use Rattle.fields.proofs.read_numbers.Reads as read-numbers-reads
 
 -- src/lib.rt:90:38
 slice-aggregate-read-numbers : tie.Need-slice-aggregate-read-numbers

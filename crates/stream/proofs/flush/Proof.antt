@@ -3,10 +3,6 @@ use lib.ListN.{length-take}
 use borrow.Author.Needs.{needs}
 use Rattle.stream.proofs.flush.Statement.{statement}
 use Rattle.stream.proofs.flush.Tie as tie
-use Rattle.stream.proofs.flush.Reads as reads
-use Rattle.stream.proofs.flush.Lts as lts
-use Rattle.io.proofs.write_all.Reads as write-all-reads
-use Rattle.os.proofs.fail.Reads as fail-reads
 
 -- src/lib.rt:73:9
 returns : tie.Need-returns

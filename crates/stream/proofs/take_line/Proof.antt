@@ -4,9 +4,6 @@ use mathlib.Core.Path.{_≡_, refl}
 use Prim.Native.Nat.{_-_, _≤_}
 use Rattle.stream.proofs.take_line.Statement.{statement}
 use Rattle.stream.proofs.take_line.Tie as tie
-use Rattle.stream.proofs.take_line.Reads as reads
-use Rattle.stream.proofs.take_line.Lts as lts
-use Rattle.stream.proofs.push.Reads as push-reads
 
 abbrev Inv-loop : tie.InvT-loop
 Inv-loop piece from line₀ held₀ i₀ line held i = (from ≤ i) × (length line ≡ length line₀)

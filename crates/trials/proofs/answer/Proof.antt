@@ -3,14 +3,6 @@ use native.Mathlib.Omega.{arith}
 use borrow.Author.Needs.{needs}
 use Rattle.trials.proofs.answer.Statement.{statement}
 use Rattle.trials.proofs.answer.Tie as tie
-use Rattle.trials.proofs.answer.Reads as reads
-use Rattle.trials.proofs.answer.Lts as lts
-use Rattle.fields.proofs.field_end.Reads as field-end-reads
-use Rattle.stream.proofs.make_room.Reads as make-room-reads
-use Rattle.trials.proofs.answer_asked.Reads as answer-asked-reads
-use Rattle.trials.proofs.answer_sheet.Reads as answer-sheet-reads
-use Rattle.trials.proofs.asked_by.Reads as asked-by-reads
-use Rattle.trials.proofs.lists.least.Reads as least-reads
 
 -- src/lib.rt:223:9
 field-end-requires : tie.Need-field-end-requires

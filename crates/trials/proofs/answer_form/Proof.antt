@@ -3,12 +3,6 @@ use native.Mathlib.Omega.{arith}
 use borrow.Author.Needs.{needs}
 use Rattle.trials.proofs.answer_form.Statement.{statement}
 use Rattle.trials.proofs.answer_form.Tie as tie
-use Rattle.trials.proofs.answer_form.Reads as reads
-use Rattle.trials.proofs.answer_form.Lts as lts
-use Rattle.fields.proofs.read_numbers.Reads as read-numbers-reads
-use Rattle.text.proofs.put_byte.Reads as put-byte-reads
-use Rattle.trials.proofs.count_of.Reads as count-of-reads
-use Rattle.trials.proofs.put_form.Reads as put-form-reads
 
 -- src/lib.rt:190:55
 slice-aggregate-read-numbers : tie.Need-slice-aggregate-read-numbers

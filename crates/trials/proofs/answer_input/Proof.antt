@@ -1,16 +1,11 @@
-use lib.ListN.{length, length-set}
-use mathlib.Core.Path.{_≡_, refl}
-use Prim.Native.Nat.{_-_, _≤_}
+use lib.ListN.{length}
+use mathlib.Core.Path.{_≡_}
+use Prim.Native.Nat.{_-_}
 use borrow.Author.Needs.{needs}
 use lib.ListN.{length-take}
 use native.Mathlib.Omega.{arith}
 use Rattle.trials.proofs.answer_input.Statement.{statement}
 use Rattle.trials.proofs.answer_input.Tie as tie
-use Rattle.trials.proofs.answer_input.Reads as reads
-use Rattle.trials.proofs.answer_input.Lts as lts
-use Rattle.stream.proofs.read_piece.Reads as read-piece-reads
-use Rattle.trials.proofs.answer_last.Reads as answer-last-reads
-use Rattle.trials.proofs.answer_piece.Reads as answer-piece-reads
 
 abbrev Inv-loop : tie.InvT-loop
 Inv-loop piece₀ line₀ sheet₀ out₀ turn₀ turns₀ piece line sheet out turn turns = (length line ≡ length line₀) × (length out ≡ length out₀) × (length piece ≡ length piece₀) × (length sheet ≡ length sheet₀)

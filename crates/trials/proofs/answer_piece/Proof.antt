@@ -1,15 +1,10 @@
-use lib.ListN.{length, length-set}
+use lib.ListN.{length}
 use native.Mathlib.Omega.{arith}
-use mathlib.Core.Path.{_≡_, refl}
-use Prim.Native.Nat.{_-_, _≤_}
+use mathlib.Core.Path.{_≡_}
+use Prim.Native.Nat.{_-_}
 use borrow.Author.Needs.{needs}
 use Rattle.trials.proofs.answer_piece.Statement.{statement}
 use Rattle.trials.proofs.answer_piece.Tie as tie
-use Rattle.trials.proofs.answer_piece.Reads as reads
-use Rattle.trials.proofs.answer_piece.Lts as lts
-use Rattle.stream.proofs.flush.Reads as flush-reads
-use Rattle.stream.proofs.take_line.Reads as take-line-reads
-use Rattle.trials.proofs.answer_held.Reads as answer-held-reads
 
 abbrev Inv-loop : tie.InvT-loop
 Inv-loop piece line₀ sheet₀ out₀ held₀ desk₀ from₀ line sheet out held desk from = (length line ≡ length line₀) × (length out ≡ length out₀) × (length sheet ≡ length sheet₀)

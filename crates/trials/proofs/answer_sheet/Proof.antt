@@ -3,11 +3,6 @@ use native.Mathlib.Omega.{arith}
 use borrow.Author.Needs.{needs}
 use Rattle.trials.proofs.answer_sheet.Statement.{statement}
 use Rattle.trials.proofs.answer_sheet.Tie as tie
-use Rattle.trials.proofs.answer_sheet.Reads as reads
-use Rattle.trials.proofs.answer_sheet.Lts as lts
-use Rattle.fields.proofs.read_numbers.Reads as read-numbers-reads
-use Rattle.trials.proofs.count_of.Reads as count-of-reads
-use Rattle.trials.proofs.make_sheet.Reads as make-sheet-reads
 
 -- src/lib.rt:208:55
 slice-aggregate-read-numbers : tie.Need-slice-aggregate-read-numbers

@@ -1,14 +1,10 @@
 use Rattle.typed.specs.declared.Number.the-variants.{Is}
 use Rattle.typed.specs.Typed.{Small, withSign, finishOf}
-use mathlib.Core.Path.{_≡_, refl, sym, _∙_, ap, subst}
+use mathlib.Core.Path.{sym, _∙_, ap, subst}
 use native.Mathlib.Omega.{arith}
 use borrow.Author.Needs.{needs}
 use Rattle.typed.proofs.finish.Statement.{statement}
 use Rattle.typed.proofs.finish.Tie as tie
-use Rattle.typed.proofs.finish.Reads as reads
-use Rattle.typed.proofs.finish.Lts as lts
-use Rattle.typed.proofs.quotient.Reads as quotient-reads
-use Rattle.typed.proofs.with_sign.Reads as with-sign-reads
 
 -- src/lib.rt:148:24
 enum-told : tie.Need-enum-told

@@ -7,9 +7,6 @@ use native.Mathlib.Omega.{arith}
 use borrow.Author.Needs.{needs}
 use Rattle.typed.proofs.first_part.Statement.{statement}
 use Rattle.typed.proofs.first_part.Tie as tie
-use Rattle.typed.proofs.first_part.Reads as reads
-use Rattle.typed.proofs.first_part.Lts as lts
-use Rattle.typed.proofs.takes.Reads as takes-reads
 
 -- src/lib.rt:77:8
 takes-requires : tie.Need-takes-requires

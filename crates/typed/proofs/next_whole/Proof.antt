@@ -1,6 +1,6 @@
 use Rattle.typed.proofs.Parts.{taken-digit, taken-most}
 use Rattle.typed.specs.Typed.{nextWhole}
-use borrow.Author.Tests.{eq-eqb, ne-eqb, le-leb, lt-leb}
+use borrow.Author.Tests.{eq-eqb, ne-eqb}
 use Rattle.typed.specs.Typed.{takes}
 use mathlib.Core.Bool.{true, false}
 use mathlib.Core.Path.{_≡_, refl, sym, _∙_}
@@ -8,9 +8,6 @@ use native.Mathlib.Omega.{arith}
 use borrow.Author.Needs.{needs}
 use Rattle.typed.proofs.next_whole.Statement.{statement}
 use Rattle.typed.proofs.next_whole.Tie as tie
-use Rattle.typed.proofs.next_whole.Reads as reads
-use Rattle.typed.proofs.next_whole.Lts as lts
-use Rattle.typed.proofs.takes.Reads as takes-reads
 
 -- src/lib.rt:89:9
 returns : tie.Need-returns

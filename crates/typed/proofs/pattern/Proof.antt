@@ -1,12 +1,9 @@
 use Rattle.typed.specs.declared.Number.the-variants.{Is}
 use Rattle.typed.specs.Typed.{patternOf}
-use mathlib.Core.Path.{_≡_, refl, sym, _∙_, ap, subst}
+use mathlib.Core.Path.{sym, _∙_, ap}
 use borrow.Author.Needs.{needs}
 use Rattle.typed.proofs.pattern.Statement.{statement}
 use Rattle.typed.proofs.pattern.Tie as tie
-use Rattle.typed.proofs.pattern.Reads as reads
-use Rattle.typed.proofs.pattern.Lts as lts
-use Rattle.typed.proofs.of_bits.Reads as of-bits-reads
 
 -- src/lib.rt:235:20
 enum-known-s : tie.Need-enum-known-s

@@ -2,19 +2,12 @@ use Rattle.typed.proofs.Parts.{small}
 use Rattle.typed.specs.Typed.{Small, finishOf, partOf, decimalOf}
 use Rattle.typed.proofs.Parts.{first-long, tail-is}
 use Rattle.text.specs.Reading.{minusFirst}
-use lib.ListN.{length}
 use Prim.Native.Nat.{_-_}
 use mathlib.Core.Bool.{true, false}
-use mathlib.Core.Path.{_≡_, refl, sym, _∙_, ap, subst}
-use native.Mathlib.Omega.{arith}
+use mathlib.Core.Path.{_≡_, sym, _∙_, ap, subst}
 use borrow.Author.Needs.{needs}
 use Rattle.typed.proofs.read_decimal.Statement.{statement}
 use Rattle.typed.proofs.read_decimal.Tie as tie
-use Rattle.typed.proofs.read_decimal.Reads as reads
-use Rattle.typed.proofs.read_decimal.Lts as lts
-use Rattle.text.proofs.minus_first.Reads as minus-first-reads
-use Rattle.typed.proofs.finish.Reads as finish-reads
-use Rattle.typed.proofs.read_part.Reads as read-part-reads
 
 -- src/lib.rt:159:8
 minus-first-requires : tie.Need-minus-first-requires

@@ -5,13 +5,10 @@ use Rattle.text.specs.FoldLaws.{run-more}
 use lib.Seq.{take-all}
 use lib.ListN.{length, take, getD}
 use Prim.Native.Nat.{_≤_, _-_}
-use mathlib.Core.Path.{_≡_, refl, sym, _∙_, ap, subst}
+use mathlib.Core.Path.{_≡_, refl, sym, _∙_, ap}
 use native.Mathlib.Omega.{arith}
 use Rattle.typed.proofs.read_hex.Statement.{statement}
 use Rattle.typed.proofs.read_hex.Tie as tie
-use Rattle.typed.proofs.read_hex.Reads as reads
-use Rattle.typed.proofs.read_hex.Lts as lts
-use Rattle.typed.proofs.step_hex.Reads as step-hex-reads
 
 abbrev Inv-loop : tie.InvT-loop
 Inv-loop text s₀ i₀ s i = (i ≤ length text) × (s ≡ run stepHex (Value 0) (take i text))

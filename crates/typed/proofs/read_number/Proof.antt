@@ -1,20 +1,12 @@
 use Rattle.typed.proofs.Parts.{long-pattern}
 use Rattle.typed.specs.Typed.{isPattern, numberOf, patternOf, hexOf}
 use Rattle.typed.proofs.Parts.{tail-is}
-use lib.ListN.{length}
 use Prim.Native.Nat.{_-_}
 use mathlib.Core.Bool.{true, false}
-use mathlib.Core.Path.{_≡_, refl, sym, _∙_, ap, subst}
-use native.Mathlib.Omega.{arith}
+use mathlib.Core.Path.{_≡_, sym, _∙_, ap}
 use borrow.Author.Needs.{needs}
 use Rattle.typed.proofs.read_number.Statement.{statement}
 use Rattle.typed.proofs.read_number.Tie as tie
-use Rattle.typed.proofs.read_number.Reads as reads
-use Rattle.typed.proofs.read_number.Lts as lts
-use Rattle.typed.proofs.is_pattern.Reads as is-pattern-reads
-use Rattle.typed.proofs.pattern.Reads as pattern-reads
-use Rattle.typed.proofs.read_decimal.Reads as read-decimal-reads
-use Rattle.typed.proofs.read_hex.Reads as read-hex-reads
 
 -- src/lib.rt:253:8
 is-pattern-requires : tie.Need-is-pattern-requires

@@ -5,13 +5,10 @@ use Rattle.text.specs.FoldLaws.{run-more}
 use lib.Seq.{take-all}
 use lib.ListN.{length, take, getD}
 use Prim.Native.Nat.{_≤_, _-_}
-use mathlib.Core.Path.{_≡_, refl, sym, _∙_, ap, subst}
+use mathlib.Core.Path.{_≡_, refl, sym, _∙_, ap}
 use native.Mathlib.Omega.{arith}
 use Rattle.typed.proofs.read_part.Statement.{statement}
 use Rattle.typed.proofs.read_part.Tie as tie
-use Rattle.typed.proofs.read_part.Reads as reads
-use Rattle.typed.proofs.read_part.Lts as lts
-use Rattle.typed.proofs.step_part.Reads as step-part-reads
 
 abbrev Inv-loop : tie.InvT-loop
 Inv-loop text s₀ i₀ s i = (i ≤ length text) × (s ≡ run stepPart Start (take i text))

@@ -1,11 +1,6 @@
 use borrow.Author.Needs.{needs}
 use Rattle.typed.proofs.step_part.Statement.{statement}
 use Rattle.typed.proofs.step_part.Tie as tie
-use Rattle.typed.proofs.step_part.Reads as reads
-use Rattle.typed.proofs.step_part.Lts as lts
-use Rattle.typed.proofs.first_part.Reads as first-part-reads
-use Rattle.typed.proofs.next_fraction.Reads as next-fraction-reads
-use Rattle.typed.proofs.next_whole.Reads as next-whole-reads
 
 -- src/lib.rt:117:24
 enum-told : tie.Need-enum-told

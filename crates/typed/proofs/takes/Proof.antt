@@ -9,10 +9,6 @@ use native.Mathlib.Omega.{arith}
 use borrow.Author.Needs.{needs}
 use Rattle.typed.proofs.takes.Statement.{statement}
 use Rattle.typed.proofs.takes.Tie as tie
-use Rattle.typed.proofs.takes.Reads as reads
-use Rattle.typed.proofs.takes.Lts as lts
-use Rattle.text.proofs.is_digit.Reads as is-digit-reads
-use Rattle.text.proofs.may_follow.Reads as may-follow-reads
 
 -- src/lib.rt:66:8
 is-digit-requires : tie.Need-is-digit-requires

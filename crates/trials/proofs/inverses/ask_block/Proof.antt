@@ -1,14 +1,7 @@
-use lib.ListN.{length, length-set}
-use native.Mathlib.Omega.{arith}
-use mathlib.Core.Path.{_≡_, refl}
-use Prim.Native.Nat.{_-_, _≤_}
+use Prim.Native.Nat.{_-_}
 use borrow.Author.Needs.{needs}
 use Rattle.trials.proofs.inverses.ask_block.Statement.{statement}
 use Rattle.trials.proofs.inverses.ask_block.Tie as tie
-use Rattle.trials.proofs.inverses.ask_block.Reads as reads
-use Rattle.trials.proofs.inverses.ask_block.Lts as lts
-use Rattle.trials.proofs.inverses.asked.Reads as asked-reads
-use Rattle.trials.proofs.inverses.further.Reads as further-reads
 
 abbrev Inv-loop : tie.InvT-loop
 Inv-loop inverse first apart count sheet block₀ target₀ i₀ block target i = Unit {0}

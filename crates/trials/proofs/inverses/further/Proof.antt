@@ -6,9 +6,6 @@ use borrow.Author.Tests.{not-false}
 use borrow.Author.Needs.{needs}
 use Rattle.trials.proofs.inverses.further.Statement.{statement}
 use Rattle.trials.proofs.inverses.further.Tie as tie
-use Rattle.trials.proofs.inverses.further.Reads as reads
-use Rattle.trials.proofs.inverses.further.Lts as lts
-use Rattle.signed.proofs.inside.Reads as inside-reads
 
 -- src/inverses.rt:90:9
 inside-requires : tie.Need-inside-requires

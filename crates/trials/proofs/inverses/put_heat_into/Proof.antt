@@ -3,12 +3,6 @@ use native.Mathlib.Omega.{arith}
 use borrow.Author.Needs.{needs}
 use Rattle.trials.proofs.inverses.put_heat_into.Statement.{statement}
 use Rattle.trials.proofs.inverses.put_heat_into.Tie as tie
-use Rattle.trials.proofs.inverses.put_heat_into.Reads as reads
-use Rattle.trials.proofs.inverses.put_heat_into.Lts as lts
-use Rattle.trials.proofs.inverses.charge_at.Reads as charge-at-reads
-use Rattle.trials.proofs.inverses.put_heat.Reads as put-heat-reads
-use Rattle.trials.proofs.lists.bounded.Reads as bounded-reads
-use Rattle.trials.proofs.lists.number_at.Reads as number-at-reads
 
 -- src/inverses.rt:84:28
 number-at-requires : tie.Need-number-at-requires

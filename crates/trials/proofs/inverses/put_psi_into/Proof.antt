@@ -3,11 +3,6 @@ use native.Mathlib.Omega.{arith}
 use borrow.Author.Needs.{needs}
 use Rattle.trials.proofs.inverses.put_psi_into.Statement.{statement}
 use Rattle.trials.proofs.inverses.put_psi_into.Tie as tie
-use Rattle.trials.proofs.inverses.put_psi_into.Reads as reads
-use Rattle.trials.proofs.inverses.put_psi_into.Lts as lts
-use Rattle.trials.proofs.inverses.put_psi.Reads as put-psi-reads
-use Rattle.trials.proofs.lists.bounded.Reads as bounded-reads
-use Rattle.trials.proofs.lists.number_at.Reads as number-at-reads
 
 -- src/inverses.rt:68:28
 number-at-requires : tie.Need-number-at-requires

@@ -1,13 +1,9 @@
-use lib.ListN.{length, length-set}
-use native.Mathlib.Omega.{arith}
-use mathlib.Core.Path.{_≡_, refl}
-use Prim.Native.Nat.{_-_, _≤_}
+use lib.ListN.{length}
+use mathlib.Core.Path.{_≡_}
+use Prim.Native.Nat.{_-_}
 use borrow.Author.Needs.{needs}
 use Rattle.trials.proofs.lists.edit.Statement.{statement}
 use Rattle.trials.proofs.lists.edit.Tie as tie
-use Rattle.trials.proofs.lists.edit.Reads as reads
-use Rattle.trials.proofs.lists.edit.Lts as lts
-use Rattle.trials.proofs.lists.store.Reads as store-reads
 
 abbrev Inv-loop : tie.InvT-loop
 Inv-loop list₀ place count value i₀ list i = length list ≡ length list₀

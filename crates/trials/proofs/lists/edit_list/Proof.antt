@@ -1,17 +1,9 @@
-use lib.ListN.{length, length-set}
-use native.Mathlib.Omega.{arith}
-use mathlib.Core.Path.{_≡_, refl}
-use Prim.Native.Nat.{_-_, _≤_}
+use lib.ListN.{length}
+use mathlib.Core.Path.{_≡_}
+use Prim.Native.Nat.{_-_}
 use borrow.Author.Needs.{needs}
 use Rattle.trials.proofs.lists.edit_list.Statement.{statement}
 use Rattle.trials.proofs.lists.edit_list.Tie as tie
-use Rattle.trials.proofs.lists.edit_list.Reads as reads
-use Rattle.trials.proofs.lists.edit_list.Lts as lts
-use Rattle.text.proofs.size.Reads as size-reads
-use Rattle.trials.proofs.lists.bounded.Reads as bounded-reads
-use Rattle.trials.proofs.lists.edit.Reads as edit-reads
-use Rattle.trials.proofs.lists.narrow.Reads as narrow-reads
-use Rattle.trials.proofs.lists.number_at.Reads as number-at-reads
 
 abbrev Inv-loop : tie.InvT-loop
 Inv-loop list₀ numbers from i₀ list i = length list ≡ length list₀

@@ -1,13 +1,9 @@
-use lib.ListN.{length, length-set}
-use native.Mathlib.Omega.{arith}
-use mathlib.Core.Path.{_≡_, refl}
-use Prim.Native.Nat.{_-_, _≤_}
+use lib.ListN.{length}
+use mathlib.Core.Path.{_≡_}
+use Prim.Native.Nat.{_-_}
 use borrow.Author.Needs.{needs}
 use Rattle.trials.proofs.lists.fill_numbers.Statement.{statement}
 use Rattle.trials.proofs.lists.fill_numbers.Tie as tie
-use Rattle.trials.proofs.lists.fill_numbers.Reads as reads
-use Rattle.trials.proofs.lists.fill_numbers.Lts as lts
-use Rattle.signed.proofs.of_u64.Reads as of-u64-reads
 
 abbrev Inv-loop : tie.InvT-loop
 Inv-loop list₀ i₀ list i = length list ≡ length list₀

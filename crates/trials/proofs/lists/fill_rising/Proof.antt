@@ -1,17 +1,9 @@
-use lib.ListN.{length, length-set}
-use native.Mathlib.Omega.{arith}
-use mathlib.Core.Path.{_≡_, refl}
+use lib.ListN.{length}
+use mathlib.Core.Path.{_≡_}
 use Prim.Native.Nat.{_-_, _≤_}
 use borrow.Author.Needs.{needs}
 use Rattle.trials.proofs.lists.fill_rising.Statement.{statement}
 use Rattle.trials.proofs.lists.fill_rising.Tie as tie
-use Rattle.trials.proofs.lists.fill_rising.Reads as reads
-use Rattle.trials.proofs.lists.fill_rising.Lts as lts
-use Rattle.rows.proofs.columns.heat_column.Reads as heat-column-reads
-use Rattle.rows.proofs.figure.Reads as figure-reads
-use Rattle.trials.proofs.lists.narrow.Reads as narrow-reads
-use Rattle.trials.proofs.lists.over.Reads as over-reads
-use Rattle.trials.proofs.lists.store.Reads as store-reads
 
 abbrev Inv-loop : tie.InvT-loop
 Inv-loop list₀ air row₀ list row = (length list ≡ length list₀) × (row ≤ 1801)

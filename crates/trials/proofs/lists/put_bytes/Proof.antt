@@ -1,14 +1,9 @@
-use lib.ListN.{length, length-set}
-use native.Mathlib.Omega.{arith}
-use mathlib.Core.Path.{_≡_, refl}
-use Prim.Native.Nat.{_-_, _≤_}
+use lib.ListN.{length}
+use mathlib.Core.Path.{_≡_}
+use Prim.Native.Nat.{_-_}
 use borrow.Author.Needs.{needs}
 use Rattle.trials.proofs.lists.put_bytes.Statement.{statement}
 use Rattle.trials.proofs.lists.put_bytes.Tie as tie
-use Rattle.trials.proofs.lists.put_bytes.Reads as reads
-use Rattle.trials.proofs.lists.put_bytes.Lts as lts
-use Rattle.text.proofs.put_byte.Reads as put-byte-reads
-use Rattle.trials.proofs.lists.bounded.Reads as bounded-reads
 
 abbrev Inv-loop : tie.InvT-loop
 Inv-loop numbers from buf₀ at next₀ i₀ buf next i = length buf ≡ length buf₀

@@ -1,13 +1,9 @@
-use lib.ListN.{length, length-set}
-use native.Mathlib.Omega.{arith}
-use mathlib.Core.Path.{_≡_, refl}
+use lib.ListN.{length}
+use mathlib.Core.Path.{_≡_}
 use Prim.Native.Nat.{_-_, _≤_}
 use borrow.Author.Needs.{needs}
 use Rattle.trials.proofs.lists.put_sheet.Statement.{statement}
 use Rattle.trials.proofs.lists.put_sheet.Tie as tie
-use Rattle.trials.proofs.lists.put_sheet.Reads as reads
-use Rattle.trials.proofs.lists.put_sheet.Lts as lts
-use Rattle.trials.proofs.lists.put_row.Reads as put-row-reads
 
 abbrev Inv-loop : tie.InvT-loop
 Inv-loop list buf₀ at₀ row₀ buf at row = (length buf ≡ length buf₀) × (row ≤ 1801)

@@ -1,14 +1,8 @@
-use lib.ListN.{length, length-set}
-use native.Mathlib.Omega.{arith}
-use mathlib.Core.Path.{_≡_, refl}
-use Prim.Native.Nat.{_-_, _≤_}
+use lib.ListN.{length}
+use Prim.Native.Nat.{_-_}
 use borrow.Author.Needs.{needs}
 use Rattle.trials.proofs.lists.sum_from.Statement.{statement}
 use Rattle.trials.proofs.lists.sum_from.Tie as tie
-use Rattle.trials.proofs.lists.sum_from.Reads as reads
-use Rattle.trials.proofs.lists.sum_from.Lts as lts
-use Rattle.trials.proofs.lists.take_on.Reads as take-on-reads
-use Rattle.trials.proofs.lists.wide.Reads as wide-reads
 
 abbrev Inv-loop : tie.InvT-loop
 Inv-loop sum list s₀ i₀ s i = Unit {0}

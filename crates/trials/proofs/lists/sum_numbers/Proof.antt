@@ -1,14 +1,8 @@
-use lib.ListN.{length, length-set}
-use native.Mathlib.Omega.{arith}
-use mathlib.Core.Path.{_≡_, refl}
-use Prim.Native.Nat.{_-_, _≤_}
+use lib.ListN.{length}
+use Prim.Native.Nat.{_-_}
 use borrow.Author.Needs.{needs}
 use Rattle.trials.proofs.lists.sum_numbers.Statement.{statement}
 use Rattle.trials.proofs.lists.sum_numbers.Tie as tie
-use Rattle.trials.proofs.lists.sum_numbers.Reads as reads
-use Rattle.trials.proofs.lists.sum_numbers.Lts as lts
-use Rattle.text.proofs.size.Reads as size-reads
-use Rattle.trials.proofs.lists.take_on.Reads as take-on-reads
 
 abbrev Inv-loop : tie.InvT-loop
 Inv-loop list s₀ i₀ s i = Unit {0}

@@ -2,8 +2,6 @@ use borrow.Author.Needs.{needs}
 use Rattle.marking.specs.MarkingLaws.{no-nan}
 use Rattle.trials.proofs.mark_forms.bits_of.Statement.{statement}
 use Rattle.trials.proofs.mark_forms.bits_of.Tie as tie
-use Rattle.trials.proofs.mark_forms.bits_of.Reads as reads
-use Rattle.trials.proofs.mark_forms.bits_of.Lts as lts
 
 -- src/mark_forms.rt:15:9
 returns : tie.Need-returns

@@ -1,14 +1,7 @@
-use lib.ListN.{length, length-set}
-use native.Mathlib.Omega.{arith}
-use mathlib.Core.Path.{_≡_, refl}
-use Prim.Native.Nat.{_-_, _≤_}
+use Prim.Native.Nat.{_-_}
 use borrow.Author.Needs.{needs}
 use Rattle.trials.proofs.mark_forms.mark_floats.Statement.{statement}
 use Rattle.trials.proofs.mark_forms.mark_floats.Tie as tie
-use Rattle.trials.proofs.mark_forms.mark_floats.Reads as reads
-use Rattle.trials.proofs.mark_forms.mark_floats.Lts as lts
-use Rattle.std.proofs.num.wrapping_add_u64.Reads as wrapping-add-u64-reads
-use Rattle.trials.proofs.mark_forms.mark_keys.Reads as mark-keys-reads
 
 abbrev Inv-loop : tie.InvT-loop
 Inv-loop grid tally₀ bits₀ i₀ tally bits i = Unit {0}

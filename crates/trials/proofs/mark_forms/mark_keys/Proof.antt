@@ -1,16 +1,7 @@
-use lib.ListN.{length, length-set}
-use native.Mathlib.Omega.{arith}
-use mathlib.Core.Path.{_≡_, refl}
-use Prim.Native.Nat.{_-_, _≤_}
+use Prim.Native.Nat.{_-_}
 use borrow.Author.Needs.{needs}
 use Rattle.trials.proofs.mark_forms.mark_keys.Statement.{statement}
 use Rattle.trials.proofs.mark_forms.mark_keys.Tie as tie
-use Rattle.trials.proofs.mark_forms.mark_keys.Reads as reads
-use Rattle.trials.proofs.mark_forms.mark_keys.Lts as lts
-use Rattle.marking.proofs.mark.Reads as mark-reads
-use Rattle.trials.proofs.inverses.further.Reads as further-reads
-use Rattle.trials.proofs.mark_forms.tallied.Reads as tallied-reads
-use Rattle.trials.proofs.mark_forms.typed_as.Reads as typed-as-reads
 
 abbrev Inv-loop : tie.InvT-loop
 Inv-loop grid bits tally₀ key₀ i₀ tally key i = Unit {0}

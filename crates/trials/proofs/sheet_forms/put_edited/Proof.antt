@@ -3,13 +3,6 @@ use native.Mathlib.Omega.{arith}
 use borrow.Author.Needs.{needs}
 use Rattle.trials.proofs.sheet_forms.put_edited.Statement.{statement}
 use Rattle.trials.proofs.sheet_forms.put_edited.Tie as tie
-use Rattle.trials.proofs.sheet_forms.put_edited.Reads as reads
-use Rattle.trials.proofs.sheet_forms.put_edited.Lts as lts
-use Rattle.trials.proofs.lists.bounded.Reads as bounded-reads
-use Rattle.trials.proofs.lists.least.Reads as least-reads
-use Rattle.trials.proofs.lists.number_at.Reads as number-at-reads
-use Rattle.trials.proofs.lists.put_edited.Reads as put-edited-reads
-use Rattle.trials.proofs.sheet_forms.put_read.Reads as put-read-reads
 
 -- src/sheet_forms.rt:38:31
 number-at-requires : tie.Need-number-at-requires

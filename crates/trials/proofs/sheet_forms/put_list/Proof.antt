@@ -3,11 +3,6 @@ use native.Mathlib.Omega.{arith}
 use borrow.Author.Needs.{needs}
 use Rattle.trials.proofs.sheet_forms.put_list.Statement.{statement}
 use Rattle.trials.proofs.sheet_forms.put_list.Tie as tie
-use Rattle.trials.proofs.sheet_forms.put_list.Reads as reads
-use Rattle.trials.proofs.sheet_forms.put_list.Lts as lts
-use Rattle.trials.proofs.lists.bounded.Reads as bounded-reads
-use Rattle.trials.proofs.lists.number_at.Reads as number-at-reads
-use Rattle.trials.proofs.sheet_forms.put_judged.Reads as put-judged-reads
 
 -- src/sheet_forms.rt:23:28
 number-at-requires : tie.Need-number-at-requires

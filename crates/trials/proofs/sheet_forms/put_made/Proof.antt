@@ -3,12 +3,6 @@ use native.Mathlib.Omega.{arith}
 use borrow.Author.Needs.{needs}
 use Rattle.trials.proofs.sheet_forms.put_made.Statement.{statement}
 use Rattle.trials.proofs.sheet_forms.put_made.Tie as tie
-use Rattle.trials.proofs.sheet_forms.put_made.Reads as reads
-use Rattle.trials.proofs.sheet_forms.put_made.Lts as lts
-use Rattle.trials.proofs.lists.least.Reads as least-reads
-use Rattle.trials.proofs.lists.make_text.Reads as make-text-reads
-use Rattle.trials.proofs.lists.number_at.Reads as number-at-reads
-use Rattle.trials.proofs.sheet_forms.put_edited.Reads as put-edited-reads
 
 -- src/sheet_forms.rt:48:33
 number-at-requires : tie.Need-number-at-requires

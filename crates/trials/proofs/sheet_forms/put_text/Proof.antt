@@ -3,11 +3,6 @@ use native.Mathlib.Omega.{arith}
 use borrow.Author.Needs.{needs}
 use Rattle.trials.proofs.sheet_forms.put_text.Statement.{statement}
 use Rattle.trials.proofs.sheet_forms.put_text.Tie as tie
-use Rattle.trials.proofs.sheet_forms.put_text.Reads as reads
-use Rattle.trials.proofs.sheet_forms.put_text.Lts as lts
-use Rattle.trials.proofs.lists.bounded.Reads as bounded-reads
-use Rattle.trials.proofs.lists.number_at.Reads as number-at-reads
-use Rattle.trials.proofs.sheet_forms.put_made.Reads as put-made-reads
 
 -- src/sheet_forms.rt:56:28
 number-at-requires : tie.Need-number-at-requires

@@ -3,13 +3,6 @@ use native.Mathlib.Omega.{arith}
 use borrow.Author.Needs.{needs}
 use Rattle.trials.proofs.walk_forms.put_walk_into.Statement.{statement}
 use Rattle.trials.proofs.walk_forms.put_walk_into.Tie as tie
-use Rattle.trials.proofs.walk_forms.put_walk_into.Reads as reads
-use Rattle.trials.proofs.walk_forms.put_walk_into.Lts as lts
-use Rattle.trials.proofs.inverses.charge_at.Reads as charge-at-reads
-use Rattle.trials.proofs.lists.bounded.Reads as bounded-reads
-use Rattle.trials.proofs.lists.least.Reads as least-reads
-use Rattle.trials.proofs.lists.number_at.Reads as number-at-reads
-use Rattle.trials.proofs.walk_forms.put_walk.Reads as put-walk-reads
 
 -- src/walk_forms.rt:63:28
 number-at-requires : tie.Need-number-at-requires
