@@ -8,3 +8,4 @@ pub mod AnswersLaws
 pub mod WalksLaws
 pub mod JudgedLaws
 pub mod OneOutcome
+pub mod Examples

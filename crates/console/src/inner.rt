@@ -1,9 +1,13 @@
 // The inner doors of console, for the programs beside it: the parts of an answer, put one after the other.
 use crate::replies;
 use crate::requests;
+use crate::walks;
+use crate::walks::Layout;
+use air::Millikelvin;
 use air::PsiAnswer;
 use air::Reading;
 use air::Refusal;
+use gas::Charge;
 use gas::HeatAnswer;
 use gas::Products;
 use gas::SpecificAnswer;
@@ -22,6 +26,7 @@ ghost use Rattle.gas.specs.Answers.{paperHeat, paperSpecific, paperTemperature}
 ghost use Rattle.marking.specs.Marking.{paper};
 ghost use Rattle.console.specs.Texts.{refusalText, fieldsText, used, countedText, readingText, inverseText, productsText, wholeText, markText};
 ghost use Rattle.console.specs.Answers.{Judged, answerOf};
+ghost use Rattle.console.specs.Walks.{walkTold, printedWalk};
 
 // A tab and a number.
 pub fn put_number(n: u64, out: &mut [u8], at: usize) -> usize
@@ -197,4 +202,20 @@ pub fn answer_judged(
     let request = requests::request_of(&line[0..end]);
     let next = replies::reply(request, line, end + 1, verdict, sheet, out, at);
     text::put_byte(10, out, next)
+}
+
+// The printed walk over a sheet that was judged when it was read.
+pub fn print_judged(
+    charge: Charge,
+    t: Millikelvin,
+    steps: &[i64],
+    verdict: SheetAnswer,
+    sheet: &[u32],
+    out: &mut [u8],
+    at: usize,
+) -> usize
+    requires { ⌜ Judged verdict (now sheet) ⌝ }
+    ensures { λ r. ⌜ Put (printedWalk (walkTold verdict (now (sheet .entry)) charge (t .0) (now (steps .entry)))) (now (out .entry)) at r (now (out .exit)) ⌝ }
+{
+    walks::show(Layout::Page, charge, t, steps, verdict, sheet, out, at)
 }

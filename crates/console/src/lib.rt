@@ -1,5 +1,6 @@
 // The console: one request line in, one answer line out, fields parted by tabs (docs/PROGRAM.md). The answer's bytes are a definition's, `answerOf` of
-// specs/Answers.antt, for every line and every sheet list: the numbers of the layers below as their own definitions tell them, in one definition of text.
+// specs/Answers.antt, for every line and every sheet list: the numbers of the layers below as their own definitions tell them, in one definition of text. And the
+// printed walk, `printedWalk` of specs/Walks.antt.
 pub mod inner;
 mod judged;
 mod marks;
@@ -7,13 +8,30 @@ mod replies;
 mod requests;
 mod walks;
 
+use air::Millikelvin;
+use gas::Charge;
 use sheet::SheetAnswer;
 ghost use Rattle.text.specs.Put.{Put};
 ghost use Rattle.console.specs.Answers.{answerOf};
+ghost use Rattle.console.specs.Walks.{walkTold, printedWalk};
 
 // Puts the answer to a request line, its line feed with it, as far as there is room. Answers the place after it.
 pub fn answer(line: &[u8], sheet: &[u32], out: &mut [u8], at: usize) -> usize
     ensures { λ r. ⌜ Put (answerOf SheetAnswer.Good (now (sheet .entry)) (now (line .entry))) (now (out .entry)) at r (now (out .exit)) ⌝ }
 {
     inner::answer_judged(line, sheet::judge_sheet(sheet), sheet, out, at)
+}
+
+// Puts the walk of a charge from a temperature over the steps, four numbers each, as document 01 prints one, as far as there is room. Answers the place after it.
+pub fn print_walk(
+    charge: Charge,
+    t: Millikelvin,
+    steps: &[i64],
+    sheet: &[u32],
+    out: &mut [u8],
+    at: usize,
+) -> usize
+    ensures { λ r. ⌜ Put (printedWalk (walkTold SheetAnswer.Good (now (sheet .entry)) charge (t .0) (now (steps .entry)))) (now (out .entry)) at r (now (out .exit)) ⌝ }
+{
+    inner::print_judged(charge, t, steps, sheet::judge_sheet(sheet), sheet, out, at)
 }

@@ -122,10 +122,10 @@ abbrev pub printedSteps : List ℤ
 printedSteps = pos 0 ∷ pos 0 ∷ pos 0 ∷ pos 1200000001 ∷ pos 0 ∷ pos 0 ∷ pos 0 ∷ pos 2400000 ∷ []
 
 module _ {s : List ℕ} (ok : Accepted s) (t r : List ℤ) (l : List ℕ) (ft : 2 ≤ length t) (fr : 2 ≤ length r) (fl : 22 ≤ length l) where
-  abbrev told : Told Trace
+  abbrev pub told : Told Trace
   told = walked (sheetLines s) document01 s (charge 1 0 0) (pos 200000) printedSteps (length t) (length r) (length l)
 
-  told-printed : told ≡ gives (record { outs = outAt s 1200000001 ∷ outAt s 1202400000 ∷ []; end = ended (record { gas = one; mk = 200501 }) })
+  pub told-printed : told ≡ gives (record { outs = outAt s 1200000001 ∷ outAt s 1202400000 ∷ []; end = ended (record { gas = one; mk = 200501 }) })
   unfolding walked stepsOf beyond inZ lean oxygenUsed
   told-printed =
       past-sheet (startLines document01 (charge 1 0 0) (pos 200000) 8 (length t) (length r) (length l)) _ ok

@@ -1,0 +1,44 @@
+-- Document 01's printed walk comes out byte for byte, over any accepted sheet: A 1, no fuel, start 200,000 mK, q 1,200,000,001 then 2,400,000. With no steps it is the header
+-- alone; over a sheet that is refused it is the header, then `refused` and the number, whatever the walk. Assumes nothing.
+use mathlib.Core.Path.{_≡_, refl, ap, _∙_}
+use mathlib.Core.List.{List, [], _∷_, _++_}
+use Prim.Native.Nat.{ℕ}
+use lib.Dec.{lit≤}
+use lib.IntN.{ℤ, pos}
+use lib.ListN.{replicate}
+use Rattle.text.specs.Decimal.{decimal}
+use Rattle.air.specs.Refusals.{Told}
+use Rattle.air.specs.declared.Refusal.the-variants.{AtRow}
+use Rattle.signed.specs.Zed.{inZ}
+use Rattle.sheet.specs.Sheet.{Accepted}
+use Rattle.sheet.specs.AnswersLaws.{past-sheet}
+use Rattle.sheet.specs.declared.SheetAnswer.the-variants.{Good, Refused}
+use Rattle.gas.specs.declared.Charge.{Charge}
+use Rattle.gas.specs.Burning.{document01, beyond, lean, oxygenUsed}
+use Rattle.gas.specs.Examples.{charge}
+use Rattle.walk.specs.Examples.{printedSteps, told-printed, first-looks, second-looks}
+use Rattle.walk.specs.Walk.{Trace, ended, run, stepsOf, startLines, startState, walked}
+use Rattle.console.specs.Walks.{walkTold, headerText, refusedLine, printedWalk}
+
+-- step, mK, rest, looks; 1, 200500, 1, 10; 2, 200501, 0, 10
+abbrev pub printedPage : List ℕ
+printedPage =
+    115 ∷ 116 ∷ 101 ∷ 112 ∷ 9 ∷ 109 ∷ 75 ∷ 9 ∷ 114 ∷ 101 ∷ 115 ∷ 116 ∷ 9 ∷ 108 ∷ 111 ∷ 111 ∷ 107 ∷ 115 ∷ 10
+    ∷ 49 ∷ 9 ∷ 50 ∷ 48 ∷ 48 ∷ 53 ∷ 48 ∷ 48 ∷ 9 ∷ 49 ∷ 9 ∷ 49 ∷ 48 ∷ 10
+    ∷ 50 ∷ 9 ∷ 50 ∷ 48 ∷ 48 ∷ 53 ∷ 48 ∷ 49 ∷ 9 ∷ 48 ∷ 9 ∷ 49 ∷ 48 ∷ 10 ∷ []
+
+module _ {s : List ℕ} (ok : Accepted s) where
+  pub printed-page : printedWalk (walkTold Good s (charge 1 0 0) (pos 200000) printedSteps) ≡ printedPage
+  unfolding printedWalk decimal
+  printed-page =
+      ap printedWalk (told-printed ok (replicate 64 (pos 0)) (replicate 64 (pos 0)) (replicate 704 0) (lit≤ tt) (lit≤ tt) (lit≤ tt))
+      ∙ rw (first-looks ok, second-looks ok) refl
+
+  pub header-alone : printedWalk (walkTold Good s (charge 1 0 0) (pos 200000) []) ≡ headerText
+  unfolding printedWalk walked run stepsOf beyond inZ lean oxygenUsed
+  header-alone =
+      ap printedWalk (past-sheet (startLines document01 (charge 1 0 0) (pos 200000) 0 64 64 704) (record { outs = []; end = ended (startState (charge 1 0 0) (pos 200000)) }) ok)
+
+pub refused-page : (s : List ℕ) (ch : Charge) (mk : ℤ) (numbers : List ℤ) (row : ℕ) → printedWalk (walkTold (Refused (AtRow 3 row)) s ch mk numbers) ≡ headerText ++ refusedLine 3
+unfolding printedWalk
+refused-page s ch mk numbers row = refl
