@@ -1,4 +1,4 @@
-//! The reader of a sheet text: the same machine, byte by byte, one pass to judge and one to fill.
+//! The reader of a sheet text: the same machine, byte by byte, into a list of its own that is copied when the text is good.
 
 use super::sheet::PLACES;
 use super::Refused;
@@ -19,16 +19,18 @@ pub fn read(text: &[u8], list: &mut [u32]) -> Result<(), Refused> {
     if list.len() != PLACES {
         return Err((1, 0));
     }
-    let mut place = Place::default();
-    let good = text.iter().all(|byte| place.step(*byte));
-    if !good || place.row != 1801 {
-        return Err((2, place.row));
-    }
+    let mut numbers = [0; PLACES];
     let mut place = Place::default();
     for byte in text {
-        place.store(*byte, list);
-        place.step(*byte);
+        place.store(*byte, &mut numbers);
+        if !place.step(*byte) {
+            return Err((2, place.row));
+        }
     }
+    if place.row != 1801 {
+        return Err((2, place.row));
+    }
+    list.copy_from_slice(&numbers);
     Ok(())
 }
 
