@@ -11,7 +11,7 @@
 
 mod gas;
 mod marking;
-mod raw;
+pub mod raw;
 mod refusal;
 mod sheet;
 mod walk;

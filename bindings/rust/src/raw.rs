@@ -1,4 +1,6 @@
-//! The calls as include/gaskeys.h declares them. A list is a pointer and its length in elements.
+//! The calls as include/gaskeys.h declares them, for who needs them bare: a list is a pointer and its
+//! length in elements, and the header says what a pointer has to be. The functions of the crate's
+//! root are these, made safe.
 
 #[repr(C)]
 pub struct SheetTold {

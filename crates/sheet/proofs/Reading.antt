@@ -11,26 +11,31 @@ use Rattle.air.specs.Refusals.{first}
 use Rattle.sheet.specs.declared.SheetAnswer.the-variants.{Good, Refused}
 use Rattle.sheet.specs.declared.machine.State.{State}
 use Rattle.sheet.specs.Answers.{sheetOf, noSheet, SheetRead}
-use Rattle.sheet.specs.Machine.{start, after, step, rowOf, wholeSheet, Filled, filled, fillByte}
-use Rattle.sheet.specs.HeldLaws.{sound}
+use Rattle.sheet.specs.Machine.{start, step, rowOf, wholeSheet, Filled, filled, fillByte}
+use Rattle.sheet.specs.HeldLaws.{sound, same-state}
 use Rattle.sheet.specs.FirstBadLaws.{not-whole-bad}
 use Rattle.sheet.specs.FormLaws.{form-of}
 
 pub wrong-length : (text l : List ℕ) → (length l ≡ 5403 → ⊥) → SheetRead text l (Refused (Plain 1)) l
 wrong-length text l n = record { form = form-of text; told = rw (ne-eqb (length l) 5403 n) refl; list = refl }
 
-module _ (text l : List ℕ) (n : length l ≡ 5403) {from s : State} {w : Bool} (first : from ≡ start) (judged : s ≡ run step from text) (tested : w ≡ wholeSheet s) where
+-- numbers is the reader's own list before the text was read into it, and after is that list then
+module _ (text l numbers after : List ℕ) (n : length l ≡ 5403) (m : length numbers ≡ 5403) {from s : State} {w : Bool} (first : from ≡ start)
+    (fills : filled s after ≡ run fillByte (filled from numbers) text) (tested : w ≡ wholeSheet s) where
+  fills-is : filled s after ≡ run fillByte (filled start numbers) text
+  fills-is = fills ∙ ap (λ (x : State). run fillByte (filled x numbers) text) first
+
   state-is : s ≡ run step start text
-  state-is = judged ∙ ap (λ (x : State). run step x text) first
+  state-is = ap (λ (x : Filled). x .state) fills-is ∙ same-state text start numbers
 
   test-is : w ≡ wholeSheet (run step start text)
   test-is = tested ∙ ap wholeSheet state-is
 
-  pub sheet-read : {again after : State} {later : List ℕ} → w ≡ true → again ≡ start → filled after later ≡ run fillByte (filled again l) text → SheetRead text l Good later
-  sheet-read {again} {after} {later} t a f =
-      let e : later ≡ run fillByte (filled start l) text .list = ap (λ (x : Filled). x .list) (f ∙ ap (λ (x : State). run fillByte (filled x l) text) a) in
+  pub sheet-read : {later : List ℕ} → w ≡ true → later ≡ after → SheetRead text l Good later
+  sheet-read {later} t c =
+      let e : later ≡ run fillByte (filled start numbers) text .list = c ∙ ap (λ (x : Filled). x .list) fills-is in
       record {
-        form = sheetOf later (rw e (sound text l n (sym test-is ∙ t)));
+        form = sheetOf later (rw e (sound text numbers m (sym test-is ∙ t)));
         told = rw (eq-eqb (length l) 5403 n) refl;
         list = refl;
       }

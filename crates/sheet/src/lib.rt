@@ -30,9 +30,10 @@ pub fn read_sheet(text: &[u8], list: &mut [u32]) -> SheetAnswer
     if list.len() != 5403 {
         return SheetAnswer::Refused(Refusal::Plain(LIST_LENGTH));
     }
-    let s = machine::judge(machine::start(), text);
+    let mut numbers = [0u32; 5403];
+    let s = machine::fill(machine::start(), text, &mut numbers);
     if machine::whole_sheet(s) {
-        machine::fill(machine::start(), text, list);
+        machine::copy(&numbers, list);
         SheetAnswer::Good
     } else {
         SheetAnswer::Refused(Refusal::AtRow(FORM, machine::row_of(s)))

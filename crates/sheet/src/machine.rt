@@ -190,19 +190,6 @@ pub(crate) fn start() -> State
     })
 }
 
-// The state after the text.
-pub(crate) fn judge(from: State, text: &[u8]) -> State
-    ensures { λ r. ⌜ r ≡ run Machine·step from (now (text .entry)) ⌝ }
-{
-    let mut s = from;
-    let mut i = 0;
-    while i < text.len() {
-        s = step(s, text[i]);
-        i += 1;
-    }
-    s
-}
-
 // Whether all rows are read, and nothing after.
 pub(crate) fn whole_sheet(s: State) -> bool
     ensures { λ r. ⌜ r ≡ wholeSheet s ⌝ }
@@ -277,4 +264,16 @@ pub(crate) fn fill(from: State, text: &[u8], list: &mut [u32]) -> State
         i += 1;
     }
     s
+}
+
+// Writes the numbers of a whole sheet into the lent list.
+pub(crate) fn copy(numbers: &[u32; 5403], list: &mut [u32])
+    requires { ⌜ (length (now numbers) ≡ 5403) × (length (now list) ≡ 5403) ⌝ }
+    ensures { λ _. ⌜ now (list .exit) ≡ now (numbers .entry) ⌝ }
+{
+    let mut i = 0;
+    while i < 5403 {
+        list[i] = numbers[i];
+        i += 1;
+    }
 }

@@ -9,17 +9,17 @@ returns c = wrong-length (c .before .before .before .args .text .now) (c .before
 start-requires : tie.Need-start-requires
 start-requires c κs = search needs
 
-judge-requires : tie.Need-judge-requires
-judge-requires c κs = search needs
+slice-aggregate-fill : tie.Need-slice-aggregate-fill
+slice-aggregate-fill c = search needs
+
+fill-requires : tie.Need-fill-requires
+fill-requires c κs = search needs
 
 whole-sheet-requires : tie.Need-whole-sheet-requires
 whole-sheet-requires c κs = search needs
 
-start-requires-2 : tie.Need-start-requires-2
-start-requires-2 c κs = search needs
-
-fill-requires : tie.Need-fill-requires
-fill-requires c κs = search needs
+copy-requires : tie.Need-copy-requires
+copy-requires c κs = search needs
 
 row-of-requires : tie.Need-row-of-requires
 row-of-requires c κs = search needs
@@ -28,12 +28,14 @@ same-length : tie.Need-same-length
 same-length c = search needs
 
 returns-2 : tie.Need-returns-2
-returns-2 c = sheet-read (c .before .before .before .before .before .before .before .before .before .before .before .before .args .text .now) (c .before .before .before .before .before .before .before .before .before .before .before .before .args .list .now) (c .before .before .before .before .before .before .before .before .before .if1 .left)
-    (c .before .before .before .before .before .before .before .before .start .ensures) (c .before .before .before .before .before .before .before .judge .ensures) (c .before .before .before .before .before .before .whole-sheet .ensures) (c .before .before .before .before .before .if2 .taken) (c .before .before .before .before .start2 .ensures) (c .before .before .fill .ensures)
+returns-2 c =
+    let s = c .before .before .before .before .before .before .before .before .before .before .before .before .before .before in
+    sheet-read (s .args .text .now) (s .args .list .now) _ _ (c .before .before .before .before .before .before .before .before .before .before .before .if1 .left) (search needs) (c .before .before .before .before .before .before .before .before .before .before .start .ensures) (c .before .before .before .before .before .before .before .before .fill .ensures) (c .before .before .before .before .before .before .whole-sheet .ensures) (c .before .before .before .before .before .if2 .taken) (c .before .before .copy .ensures)
 
 returns-3 : tie.Need-returns-3
-returns-3 c = bad-row (c .before .before .before .before .before .before .before .before .args .text .now) (c .before .before .before .before .before .before .before .before .args .list .now) (c .before .before .before .before .before .if1 .left)
-    (c .before .before .before .before .start .ensures) (c .before .before .before .judge .ensures) (c .before .before .whole-sheet .ensures) (c .before .if2 .left) (c .row-of .ensures)
+returns-3 c =
+    let s = c .before .before .before .before .before .before .before .before .before .before in
+    bad-row (s .args .text .now) (s .args .list .now) _ _ (c .before .before .before .before .before .before .before .if1 .left) (search needs) (c .before .before .before .before .before .before .start .ensures) (c .before .before .before .before .fill .ensures) (c .before .before .whole-sheet .ensures) (c .before .if2 .left) (c .row-of .ensures)
 
 pub read-sheet-spec : {M : Type 1} → statement M
 read-sheet-spec =
@@ -41,10 +43,10 @@ read-sheet-spec =
     (tie.spec
     returns
     start-requires
-    judge-requires
-    whole-sheet-requires
-    start-requires-2
+    slice-aggregate-fill
     fill-requires
+    whole-sheet-requires
+    copy-requires
     row-of-requires
     same-length
     returns-2

@@ -1,0 +1,59 @@
+//! Station figures and marks.
+
+use super::gas::{covered, heat_at, Charge};
+use super::{sheet, Refused};
+
+/// 1, 3, 4, 5, 6; else mK, specific content and total mass.
+pub fn station(charge: Charge, mk: i64, list: &[u32]) -> Result<[f64; 3], Refused> {
+    sheet::judge(list)?;
+    charge.admit()?;
+    covered(mk)?;
+    let gas = charge.masses();
+    let content = heat_at(gas, mk, list) - heat_at(gas, 288_160, list);
+    let mass = charge.total_mass();
+    Ok([mk as f64, (content / mass) as f64, mass as f64])
+}
+
+#[derive(Clone, Copy)]
+pub enum Typed {
+    Kelvins(f64),
+    Content(f64),
+    Blank,
+}
+
+/// 12, 11; else whether the answer counts.
+pub fn mark(typed: Typed, key: i64, window: i64) -> Result<bool, u32> {
+    const FARTHEST: i64 = 1_000_000_000_000;
+    if !(-FARTHEST..=FARTHEST).contains(&key) || !(0..=100_000).contains(&window) {
+        return Err(12);
+    }
+    match typed {
+        Typed::Kelvins(x) => mark_number(1_000, x, key, window),
+        Typed::Content(x) => mark_number(100_000, x, key, window),
+        Typed::Blank => Err(11),
+    }
+}
+
+fn mark_number(scale: u64, x: f64, key: i64, window: i64) -> Result<bool, u32> {
+    let bits = x.to_bits();
+    let (negative, exponent) = (bits >> 63 == 1, bits >> 52 & 0x7ff);
+    let fraction = bits & ((1 << 52) - 1);
+    if exponent == 2047 {
+        return Err(11);
+    }
+    let middle = if negative { -key } else { key };
+    Ok(lies(scale, exponent, fraction, middle - window, middle + window))
+}
+
+/// Whether scale times the size lies from lo to hi, by its floor and its ceiling.
+fn lies(scale: u64, exponent: u64, fraction: u64, lo: i64, hi: i64) -> bool {
+    if exponent > 1062 {
+        return false;
+    }
+    let digits = if exponent == 0 { fraction } else { fraction | 1 << 52 };
+    let places = if exponent < 1005 { 70 } else { 1075 - exponent };
+    let scaled = scale as u128 * digits as u128;
+    let floor = (scaled >> places) as i64;
+    let ceiling = floor + (scaled & ((1 << places) - 1) != 0) as i64;
+    lo <= floor && ceiling <= hi
+}

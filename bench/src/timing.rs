@@ -1,0 +1,55 @@
+//! Two functions timed side by side.
+
+use std::hint::black_box;
+use std::time::Instant;
+
+/// Nanoseconds a call, and the ratio: medians over the rounds.
+pub struct Times {
+    pub proved: f64,
+    pub plain: f64,
+    pub ratio: f64,
+}
+
+const ROUNDS: usize = 401;
+/// A round of one side takes about this long.
+const ROUND: f64 = 2e5;
+
+/// Each round times both, the order changing from round to round; its ratio is that of its own two times.
+pub fn side_by_side(
+    inputs: usize,
+    proved: &mut dyn FnMut(usize) -> u64,
+    plain: &mut dyn FnMut(usize) -> u64,
+) -> Times {
+    let calls = (ROUND / round(inputs, inputs.max(64), plain)).ceil() as usize;
+    let mut times = Vec::new();
+    for i in 0..ROUNDS {
+        let (a, b) = if i % 2 == 0 {
+            let a = round(inputs, calls, proved);
+            (a, round(inputs, calls, plain))
+        } else {
+            let b = round(inputs, calls, plain);
+            (round(inputs, calls, proved), b)
+        };
+        times.push((a, b, a / b));
+    }
+    Times {
+        proved: median(times.iter().map(|t| t.0)),
+        plain: median(times.iter().map(|t| t.1)),
+        ratio: median(times.iter().map(|t| t.2)),
+    }
+}
+
+/// Nanoseconds a call over so many calls, the inputs in turn.
+fn round(inputs: usize, calls: usize, call: &mut dyn FnMut(usize) -> u64) -> f64 {
+    let began = Instant::now();
+    for i in 0..calls {
+        black_box(call(black_box(i % inputs)));
+    }
+    began.elapsed().as_nanos() as f64 / calls as f64
+}
+
+fn median(values: impl Iterator<Item = f64>) -> f64 {
+    let mut values: Vec<f64> = values.collect();
+    values.sort_by(f64::total_cmp);
+    values[values.len() / 2]
+}
