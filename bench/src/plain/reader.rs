@@ -56,11 +56,11 @@ impl Place {
     }
 
     fn takes_digit(&self, digit: u32) -> bool {
-        let value = 10 * self.value + digit;
+        let (value, digit) = (self.value as u64, digit as u64);
         if self.field == 0 {
-            return begins(200 + self.row, value);
+            return begins(200 + self.row as u64, 10 * value + digit);
         }
-        (!self.seen || self.value != 0) && value <= 200_000
+        may_follow(200_000, self.seen, value, digit)
     }
 
     fn step_end(&mut self, byte: u8) -> bool {
@@ -95,6 +95,18 @@ impl Place {
 }
 
 /// Whether the digits of v begin those of the kelvin k.
-fn begins(k: u32, v: u32) -> bool {
+fn begins(k: u64, v: u64) -> bool {
     v != 0 && (v == k || v == k / 10 || v == k / 100 || v == k / 1000)
+}
+
+/// Whether a digit may follow the number so far, under any limit with nothing that could wrap.
+fn may_follow(limit: u64, seen: bool, value: u64, digit: u64) -> bool {
+    if value > limit / 10 {
+        return false;
+    }
+    if value == 0 {
+        !seen && digit <= limit
+    } else {
+        digit <= limit - 10 * value
+    }
 }

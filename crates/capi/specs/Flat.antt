@@ -1,6 +1,6 @@
 -- What a call tells, as one struct by value: 0 or the refusal's number, the row of refusals 2 and 3, the values of the answer, and 0 in every field that a case does not
 -- have. Each definition takes what the entry of the same name tells (`Told`, in the paper's numbers). Definitions only.
-use mathlib.Core.Bool.{Bool, true, false, cond}
+use mathlib.Core.Bool.{Bool, false, cond}
 use Prim.Native.Nat.{ℕ}
 use lib.Dec.{eqb}
 use lib.IntN.{ℤ, pos}

@@ -1,3 +1,4 @@
 pub mod Reading
 pub mod StepRule
 pub mod Copied
+pub mod Filling

@@ -9,7 +9,9 @@ use Rattle.text.specs.Fold.{run}
 use Rattle.air.specs.declared.Refusal.the-variants.{Plain, AtRow}
 use Rattle.air.specs.Refusals.{first}
 use Rattle.sheet.specs.declared.SheetAnswer.the-variants.{Good, Refused}
+use Rattle.sheet.specs.declared.machine.Place.{Place}
 use Rattle.sheet.specs.declared.machine.State.{State}
+use Rattle.sheet.specs.declared.machine.State.the-variants.{Going}
 use Rattle.sheet.specs.Answers.{sheetOf, noSheet, SheetRead}
 use Rattle.sheet.specs.Machine.{start, step, rowOf, wholeSheet, Filled, filled, fillByte}
 use Rattle.sheet.specs.HeldLaws.{sound, same-state}
@@ -20,8 +22,8 @@ pub wrong-length : (text l : List ℕ) → (length l ≡ 5403 → ⊥) → Sheet
 wrong-length text l n = record { form = form-of text; told = rw (ne-eqb (length l) 5403 n) refl; list = refl }
 
 -- numbers is the reader's own list before the text was read into it, and after is that list then
-module _ (text l numbers after : List ℕ) (n : length l ≡ 5403) (m : length numbers ≡ 5403) {from s : State} {w : Bool} (first : from ≡ start)
-    (fills : filled s after ≡ run fillByte (filled from numbers) text) (tested : w ≡ wholeSheet s) where
+module _ (text l numbers after : List ℕ) (n : length l ≡ 5403) (m : length numbers ≡ 5403) {from : Place} {s : State} {w : Bool} (first : Going from ≡ start)
+    (fills : filled s after ≡ run fillByte (filled (Going from) numbers) text) (tested : w ≡ wholeSheet s) where
   fills-is : filled s after ≡ run fillByte (filled start numbers) text
   fills-is = fills ∙ ap (λ (x : State). run fillByte (filled x numbers) text) first
 

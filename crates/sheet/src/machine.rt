@@ -4,7 +4,7 @@ ghost use mathlib.Core.Bool.{Bool, cond};
 ghost use Prim.Native.Nat.{_+_, _*_, _<_};
 ghost use lib.ListN.{length};
 ghost use Rattle.text.specs.Fold.{run};
-ghost use Rattle.sheet.specs.Machine.{begins as Machine·begins, takesDigit, withDigit, whole as Machine·whole, closer as Machine·closer, after as Machine·after, stepDigit, endsField, stepEnd, stepPlace, step as Machine·step, start as Machine·start, rowOf, wholeSheet, endsRow, storedPlace, stored, filled, fillByte};
+ghost use Rattle.sheet.specs.Machine.{begins as Machine·begins, takesDigit, withDigit, whole as Machine·whole, closer as Machine·closer, after as Machine·after, stepDigit, endsField, stepEnd, stepPlace, start as Machine·start, rowOf, wholeSheet, endsRow, storedPlace, filled, fillByte};
 
 // Where the reader stands: the row, the field in it, the number so far and whether it has a digit, and the row's first two numbers.
 pub struct Place {
@@ -166,28 +166,18 @@ fn step_place(p: Place, b: u8) -> State
     }
 }
 
-// The state after a byte. A bad row stays.
-fn step(s: State, b: u8) -> State
-    ensures { λ r. ⌜ r ≡ Machine·step s b ⌝ }
+// The place before the first byte.
+pub(crate) fn start() -> Place
+    ensures { λ r. ⌜ State.Going r ≡ Machine·start ⌝ }
 {
-    match s {
-        State::Going(p) => step_place(p, b),
-        State::Bad(r) => State::Bad(r),
-    }
-}
-
-// The state before the first byte.
-pub(crate) fn start() -> State
-    ensures { λ r. ⌜ r ≡ Machine·start ⌝ }
-{
-    State::Going(Place {
+    Place {
         row: 0,
         field: 0,
         value: 0,
         seen: false,
         first: 0,
         second: 0,
-    })
+    }
 }
 
 // Whether all rows are read, and nothing after.
@@ -239,31 +229,27 @@ fn store_place(p: Place, b: u8, list: &mut [u32])
     }
 }
 
-// Writes what the byte completes.
-fn store(s: State, b: u8, list: &mut [u32])
+// The state after the text, each row's numbers written as the row ends, up to the byte after which no good sheet can follow.
+pub(crate) fn fill(from: Place, text: &[u8], list: &mut [u32]) -> State
     requires { ⌜ length (now list) ≡ 5403 ⌝ }
-    ensures { λ _. ⌜ now (list .exit) ≡ stored s b (now (list .entry)) ⌝ }
+    ensures { λ r. ⌜ filled r (now (list .exit)) ≡ run fillByte (filled (State.Going from) (now (list .entry))) (now (text .entry)) ⌝ }
 {
-    match s {
-        State::Going(p) => store_place(p, b, list),
-        State::Bad(_) => {}
-    }
-}
-
-// The state after the text, each row's numbers written as the row ends.
-pub(crate) fn fill(from: State, text: &[u8], list: &mut [u32]) -> State
-    requires { ⌜ length (now list) ≡ 5403 ⌝ }
-    ensures { λ r. ⌜ filled r (now (list .exit)) ≡ run fillByte (filled from (now (list .entry))) (now (text .entry)) ⌝ }
-{
-    let mut s = from;
+    let mut p = from;
     let mut i = 0;
     while i < text.len() {
         let b = text[i];
-        store(s, b, list);
-        s = step(s, b);
+        store_place(p, b, list);
+        match step_place(p, b) {
+            State::Bad(row) => {
+                return State::Bad(row);
+            }
+            State::Going(next) => {
+                p = next;
+            }
+        }
         i += 1;
     }
-    s
+    State::Going(p)
 }
 
 // Writes the numbers of a whole sheet into the lent list.
