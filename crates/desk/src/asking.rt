@@ -1,10 +1,9 @@
 // `keys ask`: every line of standard input is answered. Answers are written in large pieces, and before each read, so that whoever asks has them.
+use crate::lines;
 use libc::STDIN_FILENO;
 use sheet::SheetAnswer;
 use stream::Got;
 use stream::Held;
-ghost use Prim.Native.Nat.{_≤_};
-ghost use lib.ListN.{length};
 ghost use Rattle.console.specs.Answers.{Judged};
 
 // Answers every line of standard input.
@@ -86,13 +85,6 @@ fn answer_last(held: Held, line: &[u8], verdict: SheetAnswer, sheet: &[u32], out
     stream::flush(out, at);
 }
 
-// The smaller of two numbers.
-pub(crate) fn least(a: usize, b: usize) -> usize
-    ensures { λ r. ⌜ r ≤ b ⌝ }
-{
-    if a < b { a } else { b }
-}
-
 // Answers the line that is held, and writes the answers where they fill half of the output.
 fn answer_held(
     held: Held,
@@ -106,7 +98,7 @@ fn answer_held(
 {
     match held {
         Held::Bytes(n) => {
-            let end = least(n, line.len());
+            let end = lines::end_of(n, line);
             let next = console::inner::answer_judged(&line[0..end], verdict, sheet, out, at);
             stream::make_room(out, next)
         }

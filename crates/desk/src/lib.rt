@@ -2,6 +2,7 @@
 // functions promise that they are safe and end; the texts that they write are promised by the console. Every program that runs a form of `keys` calls `run`.
 mod arguments;
 mod asking;
+mod lines;
 mod pages;
 mod questions;
 mod sheets;

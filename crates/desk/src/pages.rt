@@ -53,7 +53,8 @@ pub(crate) fn print_example(verdict: SheetAnswer, sheet: &[u32])
         &mut out,
         0,
     );
-    let end = put_usage(&mut out, next);
+    let line = text::put_byte(10, &mut out, next);
+    let end = put_usage(&mut out, line);
     stream::flush(&out, end);
 }
 

@@ -2,7 +2,7 @@
 // Nothing is printed before the whole question is read, and nothing but a line on standard error where a line is not four numbers.
 use crate::arguments;
 use crate::arguments::Named;
-use crate::asking;
+use crate::lines;
 use air::Millikelvin;
 use fields::Four;
 use gas::Charge;
@@ -110,7 +110,7 @@ fn take(question: Question, line: &[u8], numbers: &mut [i64]) -> Question {
 fn take_held(question: Question, held: Held, line: &[u8], numbers: &mut [i64]) -> Question {
     match held {
         Held::Bytes(n) => {
-            let end = asking::least(n, line.len());
+            let end = lines::end_of(n, line);
             take(question, &line[0..end], numbers)
         }
         Held::Over => take(question, b"", numbers),
@@ -170,19 +170,17 @@ fn read_all(fd: i32, piece: &mut [u8], line: &mut [u8], numbers: &mut [i64]) -> 
     take_last(turn, line, numbers)
 }
 
-// How many of so many lines the list holds, the first of them.
+// How many of so many lines the list holds.
 fn kept(lines: u64) -> usize
+    requires { ⌜ 1 ≤ lines ⌝ }
     ensures { λ r. ⌜ (1 ≤ r) × (r ≤ 66) ⌝ }
 {
-    if lines < 1 {
-        return 1;
-    }
     if lines < 66 { lines as usize } else { 66 }
 }
 
 // Prints the walk of a question of so many lines.
 fn print_walk(lines: u64, numbers: &[i64], verdict: SheetAnswer, sheet: &[u32])
-    requires { ⌜ Judged verdict (now sheet) × (length (now numbers) ≡ 264) ⌝ }
+    requires { ⌜ Judged verdict (now sheet) × (length (now numbers) ≡ 264) × (1 ≤ lines) ⌝ }
 {
     let mut out = io::buffer();
     let start = Charge {
