@@ -2,7 +2,7 @@
 // safe and end; what is done with a line is promised by the library that answers it.
 ghost use Prim.Native.Nat.{_≤_};
 ghost use lib.ListN.{length};
-ghost use Rattle.stream.specs.Taking.{Gone};
+ghost use Rattle.stream.specs.Taking.{Gone, Inside};
 use libc::STDIN_FILENO;
 use libc::STDOUT_FILENO;
 
@@ -57,25 +57,52 @@ pub fn take_line(held: Held, piece: &[u8], from: usize, line: &mut [u8]) -> Take
     }
 }
 
-// Reads a piece of standard input. Answers how many bytes it has: 0 at the end of the input or after a failure, which a line on standard error names.
+// What a read gave: so many bytes of the piece, the end of the input, or nothing, after a line on standard error.
+pub enum Got {
+    Bytes(usize),
+    End,
+    Failed,
+}
+
+// Reads a piece of an input, which a failure's line names.
+pub fn read_some(fd: i32, what: &[u8], piece: &mut [u8]) -> Got
+    ensures { λ r. ⌜ Inside r (now (piece .exit)) ⌝ }
+{
+    let got = libc::read(fd, piece);
+    if got < 0 {
+        os::fail(what);
+        return Got::Failed;
+    }
+    if got == 0 {
+        return Got::End;
+    }
+    Got::Bytes(io::count(got, piece))
+}
+
+// Reads a piece of standard input. Answers how many bytes it has: 0 at the end of the input or after a failure.
 pub fn read_piece(piece: &mut [u8]) -> usize
     ensures { λ r. ⌜ r ≤ length (now (piece .exit)) ⌝ }
 {
-    let got = libc::read(STDIN_FILENO, piece);
-    if got < 0 {
-        os::fail(b"standard input");
+    match read_some(STDIN_FILENO, b"standard input", piece) {
+        Got::Bytes(n) => n,
+        Got::End => 0,
+        Got::Failed => 0,
     }
-    io::count(got, piece)
+}
+
+// Writes what is filled of a buffer. A failure's line names where.
+pub fn write_some(fd: i32, what: &[u8], out: &[u8], at: usize) {
+    if at > out.len() {
+        return;
+    }
+    if !io::write_all(fd, &out[..at]) {
+        os::fail(what);
+    }
 }
 
 // Writes what is filled of the output. Answers the place to go on at, the start.
 pub fn flush(out: &[u8], at: usize) -> usize {
-    if at > out.len() {
-        return 0;
-    }
-    if !io::write_all(STDOUT_FILENO, &out[..at]) {
-        os::fail(b"standard output");
-    }
+    write_some(STDOUT_FILENO, b"standard output", out, at);
     0
 }
 

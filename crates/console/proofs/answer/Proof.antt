@@ -2,10 +2,6 @@ use Rattle.console.specs.JudgedLaws.{judged-of, judged-once}
 use borrow.Author.Needs.{needs}
 use Rattle.console.proofs.answer.Statement.{statement}
 use Rattle.console.proofs.answer.Tie as tie
-use Rattle.console.proofs.answer.Reads as reads
-use Rattle.console.proofs.answer.Lts as lts
-use Rattle.console.proofs.inner.answer_judged.Reads as answer-judged-reads
-use Rattle.sheet.proofs.judge_sheet.Reads as judge-sheet-reads
 
 -- src/lib.rt:17:32
 judge-sheet-requires : tie.Need-judge-sheet-requires

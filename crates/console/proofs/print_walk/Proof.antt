@@ -2,10 +2,6 @@ use Rattle.console.specs.JudgedLaws.{judged-of, printed-once}
 use borrow.Author.Needs.{needs}
 use Rattle.console.proofs.print_walk.Statement.{statement}
 use Rattle.console.proofs.print_walk.Tie as tie
-use Rattle.console.proofs.print_walk.Reads as reads
-use Rattle.console.proofs.print_walk.Lts as lts
-use Rattle.console.proofs.inner.print_judged.Reads as print-judged-reads
-use Rattle.sheet.proofs.judge_sheet.Reads as judge-sheet-reads
 
 -- src/lib.rt:36:43
 judge-sheet-requires : tie.Need-judge-sheet-requires

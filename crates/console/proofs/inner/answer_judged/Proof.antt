@@ -5,12 +5,6 @@ use Rattle.text.specs.PutLaws.{put-then}
 use borrow.Author.Needs.{needs}
 use Rattle.console.proofs.inner.answer_judged.Statement.{statement}
 use Rattle.console.proofs.inner.answer_judged.Tie as tie
-use Rattle.console.proofs.inner.answer_judged.Reads as reads
-use Rattle.console.proofs.inner.answer_judged.Lts as lts
-use Rattle.console.proofs.replies.reply.Reads as reply-reads
-use Rattle.console.proofs.requests.request_of.Reads as request-of-reads
-use Rattle.fields.proofs.field_end.Reads as field-end-reads
-use Rattle.text.proofs.put_byte.Reads as put-byte-reads
 
 -- src/inner.rt:190:9
 field-end-requires : tie.Need-field-end-requires

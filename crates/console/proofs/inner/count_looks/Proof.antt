@@ -6,8 +6,6 @@ use mathlib.Core.Path.{_≡_, ap}
 use Prim.Native.Nat.{_+_, _-_, _≤_}
 use Rattle.console.proofs.inner.count_looks.Statement.{statement}
 use Rattle.console.proofs.inner.count_looks.Tie as tie
-use Rattle.console.proofs.inner.count_looks.Reads as reads
-use Rattle.console.proofs.inner.count_looks.Lts as lts
 
 abbrev Inv-loop : tie.InvT-loop
 Inv-loop looks i₀ i = (i ≤ length looks) × (length (used looks) ≡ i + length (used (drop i looks)))

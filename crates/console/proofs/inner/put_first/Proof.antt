@@ -10,9 +10,6 @@ use mathlib.Core.Path.{_≡_}
 use Prim.Native.Nat.{_-_, _≤_}
 use Rattle.console.proofs.inner.put_first.Statement.{statement}
 use Rattle.console.proofs.inner.put_first.Tie as tie
-use Rattle.console.proofs.inner.put_first.Reads as reads
-use Rattle.console.proofs.inner.put_first.Lts as lts
-use Rattle.console.proofs.inner.put_number.Reads as put-number-reads
 
 abbrev Inv-loop : tie.InvT-loop
 Inv-loop looks n out₀ at next₀ i₀ out next i = (i ≤ n) × Put (fieldsText (map pos (take i looks))) out₀ at next out

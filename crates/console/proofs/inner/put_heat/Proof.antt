@@ -6,11 +6,6 @@ use Rattle.text.specs.PutLaws.{put-then}
 use borrow.Author.Needs.{needs}
 use Rattle.console.proofs.inner.put_heat.Statement.{statement}
 use Rattle.console.proofs.inner.put_heat.Tie as tie
-use Rattle.console.proofs.inner.put_heat.Reads as reads
-use Rattle.console.proofs.inner.put_heat.Lts as lts
-use Rattle.console.proofs.inner.put_refusal.Reads as put-refusal-reads
-use Rattle.console.proofs.inner.put_signed.Reads as put-signed-reads
-use Rattle.text.proofs.put_text.Reads as put-text-reads
 
 -- src/inner.rt:138:24
 enum-known-answer : tie.Need-enum-known-answer

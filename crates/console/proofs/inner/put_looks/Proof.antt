@@ -4,11 +4,6 @@ use Rattle.text.specs.PutLaws.{put-then}
 use borrow.Author.Needs.{needs}
 use Rattle.console.proofs.inner.put_looks.Statement.{statement}
 use Rattle.console.proofs.inner.put_looks.Tie as tie
-use Rattle.console.proofs.inner.put_looks.Reads as reads
-use Rattle.console.proofs.inner.put_looks.Lts as lts
-use Rattle.console.proofs.inner.count_looks.Reads as count-looks-reads
-use Rattle.console.proofs.inner.put_first.Reads as put-first-reads
-use Rattle.console.proofs.inner.put_number.Reads as put-number-reads
 
 -- src/inner.rt:90:9
 count-looks-requires : tie.Need-count-looks-requires

@@ -2,10 +2,6 @@ use Rattle.console.specs.AnswersLaws.{told-refused}
 use borrow.Author.Needs.{needs}
 use Rattle.console.proofs.inner.put_mark.Statement.{statement}
 use Rattle.console.proofs.inner.put_mark.Tie as tie
-use Rattle.console.proofs.inner.put_mark.Reads as reads
-use Rattle.console.proofs.inner.put_mark.Lts as lts
-use Rattle.console.proofs.inner.put_refusal.Reads as put-refusal-reads
-use Rattle.text.proofs.put_text.Reads as put-text-reads
 
 -- src/inner.rt:179:46
 enum-told : tie.Need-enum-told

@@ -2,10 +2,6 @@ use Rattle.text.specs.PutLaws.{put-then}
 use borrow.Author.Needs.{needs}
 use Rattle.console.proofs.inner.put_number.Statement.{statement}
 use Rattle.console.proofs.inner.put_number.Tie as tie
-use Rattle.console.proofs.inner.put_number.Reads as reads
-use Rattle.console.proofs.inner.put_number.Lts as lts
-use Rattle.text.proofs.put_byte.Reads as put-byte-reads
-use Rattle.text.proofs.put_decimal.Reads as put-decimal-reads
 
 -- src/inner.rt:19:9
 put-byte-requires : tie.Need-put-byte-requires

@@ -2,10 +2,6 @@ use Rattle.text.specs.PutLaws.{put-then}
 use borrow.Author.Needs.{needs}
 use Rattle.console.proofs.inner.put_products.Statement.{statement}
 use Rattle.console.proofs.inner.put_products.Tie as tie
-use Rattle.console.proofs.inner.put_products.Reads as reads
-use Rattle.console.proofs.inner.put_products.Lts as lts
-use Rattle.console.proofs.inner.put_number.Reads as put-number-reads
-use Rattle.text.proofs.put_text.Reads as put-text-reads
 
 -- src/inner.rt:125:29
 slice-aggregate-put-text : tie.Need-slice-aggregate-put-text

@@ -6,13 +6,6 @@ use Rattle.text.specs.PutLaws.{put-then}
 use borrow.Author.Needs.{needs}
 use Rattle.console.proofs.inner.put_psi.Statement.{statement}
 use Rattle.console.proofs.inner.put_psi.Tie as tie
-use Rattle.console.proofs.inner.put_psi.Reads as reads
-use Rattle.console.proofs.inner.put_psi.Lts as lts
-use Rattle.console.proofs.inner.put_looks.Reads as put-looks-reads
-use Rattle.console.proofs.inner.put_number.Reads as put-number-reads
-use Rattle.console.proofs.inner.put_refusal.Reads as put-refusal-reads
-use Rattle.console.proofs.inner.put_signed.Reads as put-signed-reads
-use Rattle.text.proofs.put_text.Reads as put-text-reads
 
 -- src/inner.rt:100:23
 enum-known-answer : tie.Need-enum-known-answer

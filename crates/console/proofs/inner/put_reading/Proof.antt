@@ -3,11 +3,6 @@ use Rattle.text.specs.PutLaws.{put-then}
 use borrow.Author.Needs.{needs}
 use Rattle.console.proofs.inner.put_reading.Statement.{statement}
 use Rattle.console.proofs.inner.put_reading.Tie as tie
-use Rattle.console.proofs.inner.put_reading.Reads as reads
-use Rattle.console.proofs.inner.put_reading.Lts as lts
-use Rattle.console.proofs.inner.put_number.Reads as put-number-reads
-use Rattle.console.proofs.inner.put_refusal.Reads as put-refusal-reads
-use Rattle.text.proofs.put_text.Reads as put-text-reads
 
 -- src/inner.rt:50:21
 enum-known-reading : tie.Need-enum-known-reading

@@ -3,10 +3,6 @@ use Rattle.text.specs.PutLaws.{put-then}
 use borrow.Author.Needs.{needs}
 use Rattle.console.proofs.inner.put_signed.Statement.{statement}
 use Rattle.console.proofs.inner.put_signed.Tie as tie
-use Rattle.console.proofs.inner.put_signed.Reads as reads
-use Rattle.console.proofs.inner.put_signed.Lts as lts
-use Rattle.text.proofs.put_byte.Reads as put-byte-reads
-use Rattle.text.proofs.put_whole.Reads as put-whole-reads
 
 -- src/inner.rt:27:9
 put-byte-requires : tie.Need-put-byte-requires

@@ -6,12 +6,6 @@ use Rattle.text.specs.PutLaws.{put-then}
 use borrow.Author.Needs.{needs}
 use Rattle.console.proofs.inner.put_temperature.Statement.{statement}
 use Rattle.console.proofs.inner.put_temperature.Tie as tie
-use Rattle.console.proofs.inner.put_temperature.Reads as reads
-use Rattle.console.proofs.inner.put_temperature.Lts as lts
-use Rattle.console.proofs.inner.put_looks.Reads as put-looks-reads
-use Rattle.console.proofs.inner.put_refusal.Reads as put-refusal-reads
-use Rattle.console.proofs.inner.put_signed.Reads as put-signed-reads
-use Rattle.text.proofs.put_text.Reads as put-text-reads
 
 -- src/inner.rt:164:31
 enum-known-answer : tie.Need-enum-known-answer

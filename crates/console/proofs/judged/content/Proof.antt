@@ -6,17 +6,11 @@ use Rattle.gas.specs.AnswersLaws.{readable-of}
 use Rattle.air.specs.OrdersLaws.{told-through, stopped}
 use Rattle.gas.specs.declared.Gas.{Gas}
 use Rattle.signed.specs.Zed.{up}
-use Rattle.air.specs.Refusals.{gives, first}
 use mathlib.Core.List.{[]}
-use mathlib.Core.Path.{_≡_, sym, ap, _∙_}
+use mathlib.Core.Path.{sym, ap, _∙_}
 use borrow.Author.Needs.{needs}
 use Rattle.console.proofs.judged.content.Statement.{statement}
 use Rattle.console.proofs.judged.content.Tie as tie
-use Rattle.console.proofs.judged.content.Reads as reads
-use Rattle.console.proofs.judged.content.Lts as lts
-use Rattle.gas.proofs.inner.admit_at.Reads as admit-at-reads
-use Rattle.gas.proofs.inner.content_at.Reads as content-at-reads
-use Rattle.rows.proofs.columns.heat_column.Reads as heat-column-reads
 
 -- src/judged.rt:35:11
 admit-at-requires : tie.Need-admit-at-requires

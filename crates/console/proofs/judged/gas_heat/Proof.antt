@@ -6,17 +6,11 @@ use Rattle.gas.specs.AnswersLaws.{readable-of}
 use Rattle.air.specs.OrdersLaws.{told-through, stopped}
 use Rattle.gas.specs.declared.Gas.{Gas}
 use Rattle.signed.specs.Zed.{up}
-use Rattle.air.specs.Refusals.{gives, first}
 use mathlib.Core.List.{[]}
-use mathlib.Core.Path.{_≡_, sym, ap, _∙_}
+use mathlib.Core.Path.{sym, ap, _∙_}
 use borrow.Author.Needs.{needs}
 use Rattle.console.proofs.judged.gas_heat.Statement.{statement}
 use Rattle.console.proofs.judged.gas_heat.Tie as tie
-use Rattle.console.proofs.judged.gas_heat.Reads as reads
-use Rattle.console.proofs.judged.gas_heat.Lts as lts
-use Rattle.gas.proofs.inner.admit_at.Reads as admit-at-reads
-use Rattle.gas.proofs.inner.heat_at.Reads as heat-at-reads
-use Rattle.rows.proofs.columns.heat_column.Reads as heat-column-reads
 
 -- src/judged.rt:21:11
 admit-at-requires : tie.Need-admit-at-requires

@@ -5,15 +5,10 @@ use Rattle.gas.specs.Burning.{document01, gasOf}
 use Rattle.gas.specs.AnswersLaws.{searchable-of, stopped-told, passed-told}
 use Rattle.air.specs.OrdersLaws.{given}
 use lib.ListN.{length}
-use mathlib.Core.Path.{_≡_, sym, ap, _∙_}
+use mathlib.Core.Path.{sym, ap, _∙_}
 use borrow.Author.Needs.{needs}
 use Rattle.console.proofs.judged.temperature.Statement.{statement}
 use Rattle.console.proofs.judged.temperature.Tie as tie
-use Rattle.console.proofs.judged.temperature.Reads as reads
-use Rattle.console.proofs.judged.temperature.Lts as lts
-use Rattle.gas.proofs.inner.admit.Reads as admit-reads
-use Rattle.gas.proofs.inner.find.Reads as find-reads
-use Rattle.rows.proofs.columns.heat_column.Reads as heat-column-reads
 
 -- src/judged.rt:63:11
 admit-requires : tie.Need-admit-requires

@@ -1,8 +1,6 @@
 use mathlib.Core.Path.{refl}
 use Rattle.console.proofs.marks.in_unit.Statement.{statement}
 use Rattle.console.proofs.marks.in_unit.Tie as tie
-use Rattle.console.proofs.marks.in_unit.Reads as reads
-use Rattle.console.proofs.marks.in_unit.Lts as lts
 
 -- src/marks.rt:36:1
 returns : tie.Need-returns

@@ -4,9 +4,6 @@ use mathlib.Core.Path.{refl}
 use borrow.Author.Needs.{needs}
 use Rattle.console.proofs.marks.kind_of.Statement.{statement}
 use Rattle.console.proofs.marks.kind_of.Tie as tie
-use Rattle.console.proofs.marks.kind_of.Reads as reads
-use Rattle.console.proofs.marks.kind_of.Lts as lts
-use Rattle.check.proofs.same.Reads as same-reads
 
 -- src/marks.rt:23:26
 slice-aggregate-same : tie.Need-slice-aggregate-same

@@ -1,11 +1,6 @@
 use borrow.Author.Needs.{needs}
 use Rattle.console.proofs.marks.put_kind.Statement.{statement}
 use Rattle.console.proofs.marks.put_kind.Tie as tie
-use Rattle.console.proofs.marks.put_kind.Reads as reads
-use Rattle.console.proofs.marks.put_kind.Lts as lts
-use Rattle.console.proofs.marks.put_marked.Reads as put-marked-reads
-use Rattle.console.proofs.marks.put_typed.Reads as put-typed-reads
-use Rattle.console.proofs.replies.put_misfit.Reads as put-misfit-reads
 
 -- src/marks.rt:83:54
 enum-told : tie.Need-enum-told

@@ -4,12 +4,6 @@ use mir.Syntax.{w64}
 use borrow.Author.Needs.{needs}
 use Rattle.console.proofs.marks.put_marked.Statement.{statement}
 use Rattle.console.proofs.marks.put_marked.Tie as tie
-use Rattle.console.proofs.marks.put_marked.Reads as reads
-use Rattle.console.proofs.marks.put_marked.Lts as lts
-use Rattle.console.proofs.inner.put_mark.Reads as put-mark-reads
-use Rattle.console.proofs.replies.put_misfit.Reads as put-misfit-reads
-use Rattle.fields.proofs.read_two.Reads as read-two-reads
-use Rattle.marking.proofs.mark.Reads as mark-reads
 
 -- src/marks.rt:50:11
 read-two-requires : tie.Need-read-two-requires

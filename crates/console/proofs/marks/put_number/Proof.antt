@@ -1,11 +1,6 @@
 use borrow.Author.Needs.{needs}
 use Rattle.console.proofs.marks.put_number.Statement.{statement}
 use Rattle.console.proofs.marks.put_number.Tie as tie
-use Rattle.console.proofs.marks.put_number.Reads as reads
-use Rattle.console.proofs.marks.put_number.Lts as lts
-use Rattle.console.proofs.marks.in_unit.Reads as in-unit-reads
-use Rattle.console.proofs.marks.put_marked.Reads as put-marked-reads
-use Rattle.console.proofs.replies.put_misfit.Reads as put-misfit-reads
 
 -- src/marks.rt:61:20
 enum-known-number : tie.Need-enum-known-number

@@ -3,12 +3,6 @@ use native.Mathlib.Omega.{arith}
 use borrow.Author.Needs.{needs}
 use Rattle.console.proofs.marks.put_typed.Statement.{statement}
 use Rattle.console.proofs.marks.put_typed.Tie as tie
-use Rattle.console.proofs.marks.put_typed.Reads as reads
-use Rattle.console.proofs.marks.put_typed.Lts as lts
-use Rattle.console.proofs.marks.put_number.Reads as put-number-reads
-use Rattle.console.proofs.replies.put_misfit.Reads as put-misfit-reads
-use Rattle.fields.proofs.field_end.Reads as field-end-reads
-use Rattle.typed.proofs.read_number.Reads as read-number-reads
 
 -- src/marks.rt:71:9
 put-misfit-requires : tie.Need-put-misfit-requires

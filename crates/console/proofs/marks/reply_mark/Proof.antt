@@ -3,12 +3,6 @@ use native.Mathlib.Omega.{arith}
 use borrow.Author.Needs.{needs}
 use Rattle.console.proofs.marks.reply_mark.Statement.{statement}
 use Rattle.console.proofs.marks.reply_mark.Tie as tie
-use Rattle.console.proofs.marks.reply_mark.Reads as reads
-use Rattle.console.proofs.marks.reply_mark.Lts as lts
-use Rattle.console.proofs.marks.kind_of.Reads as kind-of-reads
-use Rattle.console.proofs.marks.put_kind.Reads as put-kind-reads
-use Rattle.console.proofs.replies.put_misfit.Reads as put-misfit-reads
-use Rattle.fields.proofs.field_end.Reads as field-end-reads
 
 -- src/marks.rt:95:9
 put-misfit-requires : tie.Need-put-misfit-requires

@@ -3,10 +3,6 @@ use Rattle.signed.specs.Zed.{back}
 use borrow.Author.Needs.{needs}
 use Rattle.console.proofs.replies.ask_psi.Statement.{statement}
 use Rattle.console.proofs.replies.ask_psi.Tie as tie
-use Rattle.console.proofs.replies.ask_psi.Reads as reads
-use Rattle.console.proofs.replies.ask_psi.Lts as lts
-use Rattle.air.proofs.psi_inverse.Reads as psi-inverse-reads
-use Rattle.console.proofs.inner.put_psi.Reads as put-psi-reads
 
 -- src/replies.rt:72:40
 slice-aggregate-psi-inverse : tie.Need-slice-aggregate-psi-inverse

@@ -21,16 +21,6 @@ use Rattle.signed.specs.Zed.{back}
 use borrow.Author.Needs.{needs}
 use Rattle.console.proofs.replies.ask_station.Statement.{statement}
 use Rattle.console.proofs.replies.ask_station.Tie as tie
-use Rattle.console.proofs.replies.ask_station.Reads as reads
-use Rattle.console.proofs.replies.ask_station.Lts as lts
-use Rattle.console.proofs.inner.put_number.Reads as put-number-reads
-use Rattle.console.proofs.inner.put_refusal.Reads as put-refusal-reads
-use Rattle.console.proofs.inner.put_signed.Reads as put-signed-reads
-use Rattle.gas.proofs.inner.admit_at.Reads as admit-at-reads
-use Rattle.gas.proofs.inner.specific_at.Reads as specific-at-reads
-use Rattle.gas.proofs.inner.total_mass.Reads as total-mass-reads
-use Rattle.rows.proofs.columns.heat_column.Reads as heat-column-reads
-use Rattle.text.proofs.put_text.Reads as put-text-reads
 
 -- src/replies.rt:183:11
 admit-at-requires : tie.Need-admit-at-requires

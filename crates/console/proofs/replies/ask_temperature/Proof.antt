@@ -3,10 +3,6 @@ use Rattle.signed.specs.Zed.{back}
 use borrow.Author.Needs.{needs}
 use Rattle.console.proofs.replies.ask_temperature.Statement.{statement}
 use Rattle.console.proofs.replies.ask_temperature.Tie as tie
-use Rattle.console.proofs.replies.ask_temperature.Reads as reads
-use Rattle.console.proofs.replies.ask_temperature.Lts as lts
-use Rattle.console.proofs.inner.put_temperature.Reads as put-temperature-reads
-use Rattle.console.proofs.judged.temperature.Reads as temperature-reads
 
 -- src/replies.rt:148:67
 slice-aggregate-temperature : tie.Need-slice-aggregate-temperature

@@ -1,12 +1,7 @@
 use Rattle.console.specs.AnswersLaws.{told-refused}
-use Rattle.text.specs.PutLaws.{put-then}
 use borrow.Author.Needs.{needs}
 use Rattle.console.proofs.replies.put_burnt.Statement.{statement}
 use Rattle.console.proofs.replies.put_burnt.Tie as tie
-use Rattle.console.proofs.replies.put_burnt.Reads as reads
-use Rattle.console.proofs.replies.put_burnt.Lts as lts
-use Rattle.console.proofs.inner.put_products.Reads as put-products-reads
-use Rattle.console.proofs.inner.put_refusal.Reads as put-refusal-reads
 
 -- src/replies.rt:91:24
 enum-known-answer : tie.Need-enum-known-answer

@@ -2,21 +2,6 @@ use Rattle.console.specs.JudgedLaws.{ready}
 use borrow.Author.Needs.{needs}
 use Rattle.console.proofs.replies.reply.Statement.{statement}
 use Rattle.console.proofs.replies.reply.Tie as tie
-use Rattle.console.proofs.replies.reply.Reads as reads
-use Rattle.console.proofs.replies.reply.Lts as lts
-use Rattle.console.proofs.marks.reply_mark.Reads as reply-mark-reads
-use Rattle.console.proofs.replies.put_unknown.Reads as put-unknown-reads
-use Rattle.console.proofs.replies.reply_air_cp.Reads as reply-air-cp-reads
-use Rattle.console.proofs.replies.reply_air_heat.Reads as reply-air-heat-reads
-use Rattle.console.proofs.replies.reply_air_psi.Reads as reply-air-psi-reads
-use Rattle.console.proofs.replies.reply_air_temperature.Reads as reply-air-temperature-reads
-use Rattle.console.proofs.replies.reply_burn.Reads as reply-burn-reads
-use Rattle.console.proofs.replies.reply_quantity.Reads as reply-quantity-reads
-use Rattle.console.proofs.requests.asked_of.Reads as asked-of-reads
-use Rattle.console.proofs.walks.reply_walk.Reads as reply-walk-reads
-use Rattle.fields.proofs.read_four.Reads as read-four-reads
-use Rattle.fields.proofs.read_one.Reads as read-one-reads
-use Rattle.fields.proofs.read_three.Reads as read-three-reads
 
 -- src/replies.rt:242:44
 enum-told : tie.Need-enum-told

@@ -4,11 +4,6 @@ use mir.Syntax.{w64}
 use borrow.Author.Needs.{needs}
 use Rattle.console.proofs.replies.reply_air_cp.Statement.{statement}
 use Rattle.console.proofs.replies.reply_air_cp.Tie as tie
-use Rattle.console.proofs.replies.reply_air_cp.Reads as reads
-use Rattle.console.proofs.replies.reply_air_cp.Lts as lts
-use Rattle.air.proofs.cp.Reads as cp-reads
-use Rattle.console.proofs.inner.put_reading.Reads as put-reading-reads
-use Rattle.console.proofs.replies.put_misfit.Reads as put-misfit-reads
 
 -- src/replies.rt:49:19
 enum-known-numbers : tie.Need-enum-known-numbers

@@ -4,11 +4,6 @@ use mir.Syntax.{w64}
 use borrow.Author.Needs.{needs}
 use Rattle.console.proofs.replies.reply_air_heat.Statement.{statement}
 use Rattle.console.proofs.replies.reply_air_heat.Tie as tie
-use Rattle.console.proofs.replies.reply_air_heat.Reads as reads
-use Rattle.console.proofs.replies.reply_air_heat.Lts as lts
-use Rattle.air.proofs.heat.Reads as heat-reads
-use Rattle.console.proofs.inner.put_reading.Reads as put-reading-reads
-use Rattle.console.proofs.replies.put_misfit.Reads as put-misfit-reads
 
 -- src/replies.rt:29:19
 enum-known-numbers : tie.Need-enum-known-numbers

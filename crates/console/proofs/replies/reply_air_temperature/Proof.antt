@@ -4,10 +4,6 @@ use mir.Syntax.{w64}
 use borrow.Author.Needs.{needs}
 use Rattle.console.proofs.replies.reply_air_temperature.Statement.{statement}
 use Rattle.console.proofs.replies.reply_air_temperature.Tie as tie
-use Rattle.console.proofs.replies.reply_air_temperature.Reads as reads
-use Rattle.console.proofs.replies.reply_air_temperature.Lts as lts
-use Rattle.console.proofs.replies.ask_psi.Reads as ask-psi-reads
-use Rattle.console.proofs.replies.put_misfit.Reads as put-misfit-reads
 
 -- src/replies.rt:81:19
 enum-known-numbers : tie.Need-enum-known-numbers

@@ -4,11 +4,6 @@ use mir.Syntax.{w64}
 use borrow.Author.Needs.{needs}
 use Rattle.console.proofs.replies.reply_burn.Statement.{statement}
 use Rattle.console.proofs.replies.reply_burn.Tie as tie
-use Rattle.console.proofs.replies.reply_burn.Reads as reads
-use Rattle.console.proofs.replies.reply_burn.Lts as lts
-use Rattle.console.proofs.replies.put_burnt.Reads as put-burnt-reads
-use Rattle.console.proofs.replies.put_misfit.Reads as put-misfit-reads
-use Rattle.gas.proofs.burn.Reads as burn-reads
 
 -- src/replies.rt:101:20
 enum-known-numbers : tie.Need-enum-known-numbers

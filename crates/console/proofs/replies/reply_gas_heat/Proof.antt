@@ -7,12 +7,6 @@ use mir.Syntax.{w64}
 use borrow.Author.Needs.{needs}
 use Rattle.console.proofs.replies.reply_gas_heat.Statement.{statement}
 use Rattle.console.proofs.replies.reply_gas_heat.Tie as tie
-use Rattle.console.proofs.replies.reply_gas_heat.Reads as reads
-use Rattle.console.proofs.replies.reply_gas_heat.Lts as lts
-use Rattle.console.proofs.inner.put_heat.Reads as put-heat-reads
-use Rattle.console.proofs.inner.put_refusal.Reads as put-refusal-reads
-use Rattle.console.proofs.judged.gas_heat.Reads as gas-heat-reads
-use Rattle.console.proofs.replies.put_misfit.Reads as put-misfit-reads
 
 -- src/replies.rt:112:19
 enum-known-asked : tie.Need-enum-known-asked

@@ -1,13 +1,6 @@
 use borrow.Author.Needs.{needs}
 use Rattle.console.proofs.replies.reply_quantity.Statement.{statement}
 use Rattle.console.proofs.replies.reply_quantity.Tie as tie
-use Rattle.console.proofs.replies.reply_quantity.Reads as reads
-use Rattle.console.proofs.replies.reply_quantity.Lts as lts
-use Rattle.console.proofs.replies.reply_content.Reads as reply-content-reads
-use Rattle.console.proofs.replies.reply_gas_heat.Reads as reply-gas-heat-reads
-use Rattle.console.proofs.replies.reply_specific.Reads as reply-specific-reads
-use Rattle.console.proofs.replies.reply_station.Reads as reply-station-reads
-use Rattle.console.proofs.replies.reply_temperature.Reads as reply-temperature-reads
 
 -- src/replies.rt:220:56
 enum-told : tie.Need-enum-told

@@ -7,12 +7,6 @@ use mir.Syntax.{w64}
 use borrow.Author.Needs.{needs}
 use Rattle.console.proofs.replies.reply_specific.Statement.{statement}
 use Rattle.console.proofs.replies.reply_specific.Tie as tie
-use Rattle.console.proofs.replies.reply_specific.Reads as reads
-use Rattle.console.proofs.replies.reply_specific.Lts as lts
-use Rattle.console.proofs.inner.put_refusal.Reads as put-refusal-reads
-use Rattle.console.proofs.inner.put_specific.Reads as put-specific-reads
-use Rattle.console.proofs.judged.specific_content.Reads as specific-content-reads
-use Rattle.console.proofs.replies.put_misfit.Reads as put-misfit-reads
 
 -- src/replies.rt:136:19
 enum-known-asked : tie.Need-enum-known-asked

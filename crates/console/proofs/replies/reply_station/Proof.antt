@@ -7,11 +7,6 @@ use Rattle.signed.specs.Zed.{back}
 use borrow.Author.Needs.{needs}
 use Rattle.console.proofs.replies.reply_station.Statement.{statement}
 use Rattle.console.proofs.replies.reply_station.Tie as tie
-use Rattle.console.proofs.replies.reply_station.Reads as reads
-use Rattle.console.proofs.replies.reply_station.Lts as lts
-use Rattle.console.proofs.inner.put_refusal.Reads as put-refusal-reads
-use Rattle.console.proofs.replies.ask_station.Reads as ask-station-reads
-use Rattle.console.proofs.replies.put_misfit.Reads as put-misfit-reads
 
 -- src/replies.rt:202:19
 enum-known-asked : tie.Need-enum-known-asked

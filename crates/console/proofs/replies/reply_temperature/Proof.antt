@@ -7,11 +7,6 @@ use mir.Syntax.{w64}
 use borrow.Author.Needs.{needs}
 use Rattle.console.proofs.replies.reply_temperature.Statement.{statement}
 use Rattle.console.proofs.replies.reply_temperature.Tie as tie
-use Rattle.console.proofs.replies.reply_temperature.Reads as reads
-use Rattle.console.proofs.replies.reply_temperature.Lts as lts
-use Rattle.console.proofs.inner.put_refusal.Reads as put-refusal-reads
-use Rattle.console.proofs.replies.ask_temperature.Reads as ask-temperature-reads
-use Rattle.console.proofs.replies.put_misfit.Reads as put-misfit-reads
 
 -- src/replies.rt:158:19
 enum-known-asked : tie.Need-enum-known-asked

@@ -5,8 +5,6 @@ use mathlib.Core.Path.{refl}
 use borrow.Author.Needs.{needs}
 use Rattle.console.proofs.requests.asked_of.Statement.{statement}
 use Rattle.console.proofs.requests.asked_of.Tie as tie
-use Rattle.console.proofs.requests.asked_of.Reads as reads
-use Rattle.console.proofs.requests.asked_of.Lts as lts
 
 -- src/requests.rt:92:19
 enum-known-numbers : tie.Need-enum-known-numbers

@@ -4,10 +4,6 @@ use mathlib.Core.Path.{refl}
 use borrow.Author.Needs.{needs}
 use Rattle.console.proofs.requests.gas_request.Statement.{statement}
 use Rattle.console.proofs.requests.gas_request.Tie as tie
-use Rattle.console.proofs.requests.gas_request.Reads as reads
-use Rattle.console.proofs.requests.gas_request.Lts as lts
-use Rattle.check.proofs.same.Reads as same-reads
-use Rattle.console.proofs.requests.other_request.Reads as other-request-reads
 
 -- src/requests.rt:52:26
 slice-aggregate-same : tie.Need-slice-aggregate-same

@@ -4,9 +4,6 @@ use Rattle.console.specs.AnswersLaws.{same-is}
 use borrow.Author.Needs.{needs}
 use Rattle.console.proofs.requests.other_request.Statement.{statement}
 use Rattle.console.proofs.requests.other_request.Tie as tie
-use Rattle.console.proofs.requests.other_request.Reads as reads
-use Rattle.console.proofs.requests.other_request.Lts as lts
-use Rattle.check.proofs.same.Reads as same-reads
 
 -- src/requests.rt:76:26
 slice-aggregate-same : tie.Need-slice-aggregate-same

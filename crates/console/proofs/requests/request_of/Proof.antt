@@ -4,10 +4,6 @@ use mathlib.Core.Path.{refl}
 use borrow.Author.Needs.{needs}
 use Rattle.console.proofs.requests.request_of.Statement.{statement}
 use Rattle.console.proofs.requests.request_of.Tie as tie
-use Rattle.console.proofs.requests.request_of.Reads as reads
-use Rattle.console.proofs.requests.request_of.Lts as lts
-use Rattle.check.proofs.same.Reads as same-reads
-use Rattle.console.proofs.requests.gas_request.Reads as gas-request-reads
 
 -- src/requests.rt:33:26
 slice-aggregate-same : tie.Need-slice-aggregate-same

@@ -2,8 +2,6 @@ use native.Mathlib.Omega.{arith}
 use borrow.Author.Needs.{needs}
 use Rattle.console.proofs.walks.held_of.Statement.{statement}
 use Rattle.console.proofs.walks.held_of.Tie as tie
-use Rattle.console.proofs.walks.held_of.Reads as reads
-use Rattle.console.proofs.walks.held_of.Lts as lts
 
 -- src/walks.rt:290:24
 enum-known-numbers : tie.Need-enum-known-numbers

@@ -3,12 +3,6 @@ use Rattle.text.specs.PutLaws.{put-then}
 use borrow.Author.Needs.{needs}
 use Rattle.console.proofs.walks.put_course.Statement.{statement}
 use Rattle.console.proofs.walks.put_course.Tie as tie
-use Rattle.console.proofs.walks.put_course.Reads as reads
-use Rattle.console.proofs.walks.put_course.Lts as lts
-use Rattle.console.proofs.inner.put_number.Reads as put-number-reads
-use Rattle.console.proofs.inner.put_refusal.Reads as put-refusal-reads
-use Rattle.console.proofs.walks.put_state.Reads as put-state-reads
-use Rattle.text.proofs.put_text.Reads as put-text-reads
 
 -- src/walks.rt:42:26
 enum-known-answer : tie.Need-enum-known-answer

@@ -2,9 +2,6 @@ use Rattle.text.specs.PutLaws.{put-none}
 use borrow.Author.Needs.{needs}
 use Rattle.console.proofs.walks.put_end.Statement.{statement}
 use Rattle.console.proofs.walks.put_end.Tie as tie
-use Rattle.console.proofs.walks.put_end.Reads as reads
-use Rattle.console.proofs.walks.put_end.Lts as lts
-use Rattle.console.proofs.walks.put_refused.Reads as put-refused-reads
 
 -- src/walks.rt:160:38
 enum-told : tie.Need-enum-told

@@ -3,10 +3,6 @@ use Rattle.signed.specs.Zed.{back}
 use borrow.Author.Needs.{needs}
 use Rattle.console.proofs.walks.put_in_line.Statement.{statement}
 use Rattle.console.proofs.walks.put_in_line.Tie as tie
-use Rattle.console.proofs.walks.put_in_line.Reads as reads
-use Rattle.console.proofs.walks.put_in_line.Lts as lts
-use Rattle.console.proofs.inner.put_looks.Reads as put-looks-reads
-use Rattle.console.proofs.inner.put_signed.Reads as put-signed-reads
 
 -- src/walks.rt:72:9
 put-signed-requires : tie.Need-put-signed-requires

@@ -2,11 +2,6 @@ use Rattle.text.specs.PutLaws.{put-then}
 use borrow.Author.Needs.{needs}
 use Rattle.console.proofs.walks.put_line.Statement.{statement}
 use Rattle.console.proofs.walks.put_line.Tie as tie
-use Rattle.console.proofs.walks.put_line.Reads as reads
-use Rattle.console.proofs.walks.put_line.Lts as lts
-use Rattle.console.proofs.walks.put_course.Reads as put-course-reads
-use Rattle.console.proofs.walks.put_steps.Reads as put-steps-reads
-use Rattle.console.proofs.walks.steps_done.Reads as steps-done-reads
 
 -- src/walks.rt:181:9
 put-course-requires : tie.Need-put-course-requires

@@ -3,13 +3,6 @@ use Rattle.signed.specs.Zed.{back}
 use borrow.Author.Needs.{needs}
 use Rattle.console.proofs.walks.put_on_page.Statement.{statement}
 use Rattle.console.proofs.walks.put_on_page.Tie as tie
-use Rattle.console.proofs.walks.put_on_page.Reads as reads
-use Rattle.console.proofs.walks.put_on_page.Lts as lts
-use Rattle.console.proofs.inner.count_looks.Reads as count-looks-reads
-use Rattle.console.proofs.inner.put_number.Reads as put-number-reads
-use Rattle.console.proofs.inner.put_signed.Reads as put-signed-reads
-use Rattle.text.proofs.put_byte.Reads as put-byte-reads
-use Rattle.text.proofs.put_decimal.Reads as put-decimal-reads
 
 -- src/walks.rt:88:9
 put-decimal-requires : tie.Need-put-decimal-requires

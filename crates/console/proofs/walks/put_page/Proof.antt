@@ -2,12 +2,6 @@ use Rattle.text.specs.PutLaws.{put-then}
 use borrow.Author.Needs.{needs}
 use Rattle.console.proofs.walks.put_page.Statement.{statement}
 use Rattle.console.proofs.walks.put_page.Tie as tie
-use Rattle.console.proofs.walks.put_page.Reads as reads
-use Rattle.console.proofs.walks.put_page.Lts as lts
-use Rattle.console.proofs.walks.put_end.Reads as put-end-reads
-use Rattle.console.proofs.walks.put_steps.Reads as put-steps-reads
-use Rattle.console.proofs.walks.steps_done.Reads as steps-done-reads
-use Rattle.text.proofs.put_text.Reads as put-text-reads
 
 -- src/walks.rt:198:31
 slice-aggregate-put-text : tie.Need-slice-aggregate-put-text

@@ -2,11 +2,6 @@ use Rattle.text.specs.PutLaws.{put-then}
 use borrow.Author.Needs.{needs}
 use Rattle.console.proofs.walks.put_refused.Statement.{statement}
 use Rattle.console.proofs.walks.put_refused.Tie as tie
-use Rattle.console.proofs.walks.put_refused.Reads as reads
-use Rattle.console.proofs.walks.put_refused.Lts as lts
-use Rattle.console.proofs.inner.put_number.Reads as put-number-reads
-use Rattle.text.proofs.put_byte.Reads as put-byte-reads
-use Rattle.text.proofs.put_text.Reads as put-text-reads
 
 -- src/walks.rt:149:31
 slice-aggregate-put-text : tie.Need-slice-aggregate-put-text

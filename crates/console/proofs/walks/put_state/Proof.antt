@@ -5,9 +5,6 @@ use Rattle.signed.specs.Zed.{back}
 use borrow.Author.Needs.{needs}
 use Rattle.console.proofs.walks.put_state.Statement.{statement}
 use Rattle.console.proofs.walks.put_state.Tie as tie
-use Rattle.console.proofs.walks.put_state.Reads as reads
-use Rattle.console.proofs.walks.put_state.Lts as lts
-use Rattle.console.proofs.inner.put_signed.Reads as put-signed-reads
 
 -- src/walks.rt:31:9
 put-signed-requires : tie.Need-put-signed-requires

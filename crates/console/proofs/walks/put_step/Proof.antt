@@ -2,10 +2,6 @@ use Rattle.signed.specs.Zed.{back}
 use borrow.Author.Needs.{needs}
 use Rattle.console.proofs.walks.put_step.Statement.{statement}
 use Rattle.console.proofs.walks.put_step.Tie as tie
-use Rattle.console.proofs.walks.put_step.Reads as reads
-use Rattle.console.proofs.walks.put_step.Lts as lts
-use Rattle.console.proofs.walks.put_in_line.Reads as put-in-line-reads
-use Rattle.console.proofs.walks.put_on_page.Reads as put-on-page-reads
 
 -- src/walks.rt:108:54
 enum-told : tie.Need-enum-told

@@ -11,9 +11,6 @@ use Prim.Native.Nat.{_-_}
 use native.Mathlib.Omega.{arith}
 use Rattle.console.proofs.walks.put_steps.Statement.{statement}
 use Rattle.console.proofs.walks.put_steps.Tie as tie
-use Rattle.console.proofs.walks.put_steps.Reads as reads
-use Rattle.console.proofs.walks.put_steps.Lts as lts
-use Rattle.console.proofs.walks.put_step.Reads as put-step-reads
 
 abbrev Inv-loop : tie.InvT-loop
 Inv-loop layout n temperatures rests looks out₀ at next₀ i₀ out next i = Putting layout n temperatures rests looks out₀ at next out i

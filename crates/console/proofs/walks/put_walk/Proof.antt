@@ -1,10 +1,6 @@
 use borrow.Author.Needs.{needs}
 use Rattle.console.proofs.walks.put_walk.Statement.{statement}
 use Rattle.console.proofs.walks.put_walk.Tie as tie
-use Rattle.console.proofs.walks.put_walk.Reads as reads
-use Rattle.console.proofs.walks.put_walk.Lts as lts
-use Rattle.console.proofs.walks.put_line.Reads as put-line-reads
-use Rattle.console.proofs.walks.put_page.Reads as put-page-reads
 
 -- src/walks.rt:218:70
 enum-told : tie.Need-enum-told

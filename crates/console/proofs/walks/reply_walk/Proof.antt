@@ -10,12 +10,6 @@ use Rattle.signed.specs.Zed.{back}
 use borrow.Author.Needs.{needs}
 use Rattle.console.proofs.walks.reply_walk.Statement.{statement}
 use Rattle.console.proofs.walks.reply_walk.Tie as tie
-use Rattle.console.proofs.walks.reply_walk.Reads as reads
-use Rattle.console.proofs.walks.reply_walk.Lts as lts
-use Rattle.console.proofs.replies.put_misfit.Reads as put-misfit-reads
-use Rattle.console.proofs.walks.held_of.Reads as held-of-reads
-use Rattle.console.proofs.walks.show.Reads as show-reads
-use Rattle.fields.proofs.read_numbers.Reads as read-numbers-reads
 
 -- src/walks.rt:314:54
 slice-aggregate-read-numbers : tie.Need-slice-aggregate-read-numbers

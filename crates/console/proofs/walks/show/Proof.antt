@@ -3,10 +3,6 @@ use Rattle.console.specs.Walks.{walkTold}
 use borrow.Author.Needs.{needs}
 use Rattle.console.proofs.walks.show.Statement.{statement}
 use Rattle.console.proofs.walks.show.Tie as tie
-use Rattle.console.proofs.walks.show.Reads as reads
-use Rattle.console.proofs.walks.show.Lts as lts
-use Rattle.console.proofs.walks.put_walk.Reads as put-walk-reads
-use Rattle.console.proofs.walks.walk_held.Reads as walk-held-reads
 
 -- src/walks.rt:276:9
 slice-aggregate-walk-held : tie.Need-slice-aggregate-walk-held

@@ -3,8 +3,6 @@ use mathlib.Core.Path.{refl}
 use borrow.Author.Needs.{needs}
 use Rattle.console.proofs.walks.steps_done.Statement.{statement}
 use Rattle.console.proofs.walks.steps_done.Tie as tie
-use Rattle.console.proofs.walks.steps_done.Reads as reads
-use Rattle.console.proofs.walks.steps_done.Lts as lts
 
 -- src/walks.rt:62:26
 enum-known-answer : tie.Need-enum-known-answer

@@ -5,10 +5,6 @@ use mathlib.Core.Path.{subst}
 use borrow.Author.Needs.{needs}
 use Rattle.console.proofs.walks.walk_held.Statement.{statement}
 use Rattle.console.proofs.walks.walk_held.Tie as tie
-use Rattle.console.proofs.walks.walk_held.Reads as reads
-use Rattle.console.proofs.walks.walk_held.Lts as lts
-use Rattle.rows.proofs.columns.heat_column.Reads as heat-column-reads
-use Rattle.walk.proofs.inner.walk_judged.Reads as walk-judged-reads
 
 -- src/walks.rt:239:23
 enum-told : tie.Need-enum-told

@@ -1,0 +1,4 @@
+// `keys ask`: requests on standard input.
+fn main() {
+    desk::run();
+}

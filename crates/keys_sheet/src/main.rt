@@ -1,0 +1,4 @@
+// `keys sheet FILE`: a sheet that is accepted.
+fn main() {
+    desk::run();
+}
