@@ -3,12 +3,12 @@
 use std::sync::OnceLock;
 
 use second::trials::desk::Desk;
-use second::trials::{files, Part};
+use second::trials::files;
 
 /// The files of all trials, made once.
 fn all() -> &'static [(String, String)] {
     static FILES: OnceLock<Vec<(String, String)>> = OnceLock::new();
-    FILES.get_or_init(|| files(Part::Program))
+    FILES.get_or_init(|| files())
 }
 
 #[test]

@@ -1,18 +1,10 @@
 //! `trial_limits`: both sides of every limit of document 01, and its examples P1 to P10.
 
-use crate::trials::Part;
-
 /// A line for each side; a line's words are parted here by spaces.
-pub fn requests(built: Part) -> Vec<String> {
-    let lines = [
-        (Part::Air, AIR.lines().map(str::to_string).collect()),
-        (Part::Sheet, SHEET.lines().map(str::to_string).collect()),
-        (Part::Gas, GAS.lines().map(str::to_string).collect()),
-        (Part::Walk, walks()),
-        (Part::Marking, MARKING.lines().map(str::to_string).collect::<Vec<String>>()),
-    ];
-    let stands = lines.into_iter().filter(|(part, _)| *part <= built);
-    stands.flat_map(|(_, lines)| lines).map(|line| line.trim().replace(' ', "\t")).collect()
+pub fn requests() -> Vec<String> {
+    let lines = |text: &str| text.lines().map(str::to_string).collect();
+    let all: [Vec<String>; 5] = [lines(AIR), lines(SHEET), lines(GAS), walks(), lines(MARKING)];
+    all.concat().iter().map(|line| line.trim().replace(' ', "\t")).collect()
 }
 
 /// P1 to P3; 200,000 to 2,000,000 mK; 200 to 2,000 K; ψ at its ends; eleven places.
