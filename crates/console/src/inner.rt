@@ -14,6 +14,7 @@ use gas::SpecificAnswer;
 use gas::TemperatureAnswer;
 use marking::MarkAnswer;
 use sheet::SheetAnswer;
+use walk::WalkAnswer;
 ghost use Prim.Native.Nat.{_≤_};
 ghost use mathlib.Core.Path.{_≡_};
 ghost use mathlib.Core.List.{_∷_, map};
@@ -23,10 +24,11 @@ ghost use Rattle.text.specs.Decimal.{decimal, decimalZ};
 ghost use Rattle.text.specs.Put.{Put};
 ghost use Rattle.air.specs.Answers.{paperReading, paperPsi};
 ghost use Rattle.gas.specs.Answers.{paperHeat, paperSpecific, paperTemperature};
+ghost use Rattle.walk.specs.Walk.{paperWalk};
 ghost use Rattle.marking.specs.Marking.{paper};
-ghost use Rattle.console.specs.Texts.{refusalText, fieldsText, used, countedText, readingText, inverseText, productsText, wholeText, markText};
+ghost use Rattle.console.specs.Texts.{refusalText, toldText, fieldsText, used, countedText, readingText, inverseText, productsText, wholeText, markText};
 ghost use Rattle.console.specs.Answers.{Judged, answerOf};
-ghost use Rattle.console.specs.Walks.{walkTold, printedWalk};
+ghost use Rattle.console.specs.Walks.{walkTold, stateText, courseText, printedWalk};
 
 // A tab and a number.
 pub fn put_number(n: u64, out: &mut [u8], at: usize) -> usize
@@ -184,6 +186,36 @@ pub fn put_mark(answer: MarkAnswer, out: &mut [u8], at: usize) -> usize
         MarkAnswer::Counts => text::put_text(b"counts", out, at),
         MarkAnswer::Misses => text::put_text(b"misses", out, at),
         MarkAnswer::Refused(refusal) => put_refusal(refusal, out, at),
+    }
+}
+
+// A, c, h and mK.
+fn put_state(charge: Charge, t: Millikelvin, out: &mut [u8], at: usize) -> usize
+    ensures { λ r. ⌜ Put (stateText charge (t .0)) (now (out .entry)) at r (now (out .exit)) ⌝ }
+{
+    let air = put_signed(charge.air, out, at);
+    let carbon = put_signed(charge.carbon, out, air);
+    let hydrogen = put_signed(charge.hydrogen, out, carbon);
+    put_signed(t.0, out, hydrogen)
+}
+
+// How a walk ended.
+pub fn put_course(answer: WalkAnswer, out: &mut [u8], at: usize) -> usize
+    ensures { λ r. ⌜ Put (toldText courseText (paperWalk answer)) (now (out .entry)) at r (now (out .exit)) ⌝ }
+{
+    match answer {
+        WalkAnswer::Done(n, charge, t) => {
+            let ok = text::put_text(b"ok", out, at);
+            let steps = put_number(n as u64, out, ok);
+            put_state(charge, t, out, steps)
+        }
+        WalkAnswer::Stopped(n, number, charge, t) => {
+            let stopped = text::put_text(b"stopped", out, at);
+            let steps = put_number(n as u64, out, stopped);
+            let refusal = put_number(number as u64, out, steps);
+            put_state(charge, t, out, refusal)
+        }
+        WalkAnswer::Refused(refusal) => put_refusal(refusal, out, at),
     }
 }
 

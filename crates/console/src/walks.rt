@@ -13,8 +13,8 @@ ghost use lib.ListN.{length};
 ghost use Rattle.text.specs.Put.{Put};
 ghost use Rattle.fields.specs.Fields.{fieldsFrom};
 ghost use Rattle.walk.specs.Walk.{paperWalk, Walks};
-ghost use Rattle.console.specs.Texts.{toldText, used};
-ghost use Rattle.console.specs.Walks.{walkTold, stateText, courseText, inLine, onPage, stepText, refusedLine, endText, walkRequest};
+ghost use Rattle.console.specs.Texts.{used};
+ghost use Rattle.console.specs.Walks.{walkTold, inLine, onPage, stepText, refusedLine, endText, walkRequest};
 ghost use Rattle.console.specs.Shown.{stepsIn, shown, walkShown, layoutText, heldOf, Holds};
 ghost use Rattle.console.specs.Answers.{Judged};
 
@@ -22,36 +22,6 @@ ghost use Rattle.console.specs.Answers.{Judged};
 pub enum Layout {
     Line,
     Page,
-}
-
-// A, c, h and mK.
-fn put_state(charge: Charge, t: Millikelvin, out: &mut [u8], at: usize) -> usize
-    ensures { λ r. ⌜ Put (stateText charge (t .0)) (now (out .entry)) at r (now (out .exit)) ⌝ }
-{
-    let air = inner::put_signed(charge.air, out, at);
-    let carbon = inner::put_signed(charge.carbon, out, air);
-    let hydrogen = inner::put_signed(charge.hydrogen, out, carbon);
-    inner::put_signed(t.0, out, hydrogen)
-}
-
-// How a walk ended.
-fn put_course(answer: WalkAnswer, out: &mut [u8], at: usize) -> usize
-    ensures { λ r. ⌜ Put (toldText courseText (paperWalk answer)) (now (out .entry)) at r (now (out .exit)) ⌝ }
-{
-    match answer {
-        WalkAnswer::Done(n, charge, t) => {
-            let ok = text::put_text(b"ok", out, at);
-            let steps = inner::put_number(n as u64, out, ok);
-            put_state(charge, t, out, steps)
-        }
-        WalkAnswer::Stopped(n, number, charge, t) => {
-            let stopped = text::put_text(b"stopped", out, at);
-            let steps = inner::put_number(n as u64, out, stopped);
-            let refusal = inner::put_number(number as u64, out, steps);
-            put_state(charge, t, out, refusal)
-        }
-        WalkAnswer::Refused(refusal) => inner::put_refusal(refusal, out, at),
-    }
 }
 
 // How many steps were done.
@@ -171,7 +141,7 @@ fn put_line(
     requires { ⌜ Holds (stepsIn (paperWalk answer)) (now temperatures) (now rests) (now looks) ⌝ }
     ensures { λ r. ⌜ Put (walkShown Layout.Line (paperWalk answer) (now (temperatures .entry)) (now (rests .entry)) (now (looks .entry))) (now (out .entry)) at r (now (out .exit)) ⌝ }
 {
-    let next = put_course(answer, out, at);
+    let next = inner::put_course(answer, out, at);
     let n = steps_done(answer);
     put_steps(Layout::Line, n, temperatures, rests, looks, out, next)
 }

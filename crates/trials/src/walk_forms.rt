@@ -3,35 +3,6 @@ use crate::inverses;
 use crate::lists;
 use air::Millikelvin;
 use gas::Charge;
-use walk::WalkAnswer;
-ghost use Prim.Native.Nat.{_≤_};
-ghost use lib.ListN.{length};
-
-// A charge and a temperature, a tab before each number.
-fn put_state(charge: Charge, t: Millikelvin, out: &mut [u8], at: usize) -> usize {
-    let air = console::inner::put_signed(charge.air, out, at);
-    let carbon = console::inner::put_signed(charge.carbon, out, air);
-    let hydrogen = console::inner::put_signed(charge.hydrogen, out, carbon);
-    console::inner::put_signed(t.0, out, hydrogen)
-}
-
-// How a walk ended.
-fn put_outcome(answer: WalkAnswer, out: &mut [u8], at: usize) -> usize {
-    match answer {
-        WalkAnswer::Done(n, charge, t) => {
-            let ok = text::put_text(b"ok", out, at);
-            let steps = console::inner::put_number(n as u64, out, ok);
-            put_state(charge, t, out, steps)
-        }
-        WalkAnswer::Stopped(n, number, charge, t) => {
-            let stopped = text::put_text(b"stopped", out, at);
-            let steps = console::inner::put_number(n as u64, out, stopped);
-            let refusal = console::inner::put_number(number as u64, out, steps);
-            put_state(charge, t, out, refusal)
-        }
-        WalkAnswer::Refused(refusal) => console::inner::put_refusal(refusal, out, at),
-    }
-}
 
 // The sums of the three lists.
 fn put_sums(
@@ -59,7 +30,7 @@ fn put_walked(
     at: usize,
 ) -> usize {
     let answer = walk::walk(charge, t, sheet, steps, temperatures, rests, looks);
-    let told = put_outcome(answer, out, at);
+    let told = console::inner::put_course(answer, out, at);
     put_sums(temperatures, rests, looks, out, told)
 }
 

@@ -1,8 +1,8 @@
 use Rattle.console.specs.AnswersLaws.{told-refused}
 use Rattle.text.specs.PutLaws.{put-then}
 use borrow.Author.Needs.{needs}
-use Rattle.console.proofs.walks.put_course.Statement.{statement}
-use Rattle.console.proofs.walks.put_course.Tie as tie
+use Rattle.console.proofs.inner.put_course.Statement.{statement}
+use Rattle.console.proofs.inner.put_course.Tie as tie
 
 -- src/walks.rt:42:26
 enum-known-answer : tie.Need-enum-known-answer

@@ -3,8 +3,8 @@ use mir.Syntax.{w64}
 use mir.Val.{SFits}
 use Rattle.signed.specs.Zed.{back}
 use borrow.Author.Needs.{needs}
-use Rattle.console.proofs.walks.put_state.Statement.{statement}
-use Rattle.console.proofs.walks.put_state.Tie as tie
+use Rattle.console.proofs.inner.put_state.Statement.{statement}
+use Rattle.console.proofs.inner.put_state.Tie as tie
 
 -- src/walks.rt:31:9
 put-signed-requires : tie.Need-put-signed-requires
