@@ -24,7 +24,7 @@ pub fn print_row(sheet: &[u32]) {
     fs::write(&input, lines.iter().map(|line| format!("{line}\n")).collect::<String>())
         .expect("the temporary folder can be written");
     let own = env::current_exe().expect("a program has a path");
-    let sides = [(program.as_path(), program_words(&program)), (own.as_path(), "plain-ask")];
+    let sides = [(program.as_path(), "ask"), (own.as_path(), "plain-ask")];
     let expected: String = lines.iter().map(|line| answer(line, Ok(sheet)) + "\n").collect();
     for (path, word) in sides {
         assert!(
@@ -49,25 +49,17 @@ pub fn print_row(sheet: &[u32]) {
     println!("| a request of {REQUESTS} through `keys ask` | random | {plain:.1} | {proved:.1} | {ratio:.2} |");
 }
 
-/// target/bin/keys_ask, or target/bin/keys with the word `ask`.
+/// target/bin/keys or target/bin/keys_ask, which is the same program.
 fn program() -> Option<PathBuf> {
     let bin = Path::new(env!("CARGO_MANIFEST_DIR")).join("../target/bin");
-    ["keys_ask", "keys"].map(|name| bin.join(name)).into_iter().find(|path| path.is_file())
-}
-
-fn program_words(program: &Path) -> &'static str {
-    if program.ends_with("keys") {
-        "ask"
-    } else {
-        ""
-    }
+    ["keys", "keys_ask"].map(|name| bin.join(name)).into_iter().find(|path| path.is_file())
 }
 
 /// The nanoseconds of a run on the requests, and what it wrote.
 fn run(program: &Path, word: &str, input: &Path) -> (f64, Vec<u8>) {
     let began = Instant::now();
     let output = Command::new(program)
-        .args((!word.is_empty()).then_some(word))
+        .arg(word)
         .stdin(File::open(input).expect("the file was written"))
         .stderr(Stdio::inherit())
         .output()

@@ -13,7 +13,7 @@ pub fn rows(list: &[u32]) -> Vec<(&'static str, Inputs)> {
     let dice = &mut dice;
     let gases = Gases::of(list).expect("the built-in sheet is accepted");
     vec![
-        ("walk of 64 steps", Inputs::Walks(walks(dice, &gases, 64, 64))),
+        ("walk of 64 steps", Inputs::Walks(walks(dice, &gases, INPUTS, 64))),
         ("walk of 1 step", Inputs::Walks(walks(dice, &gases, INPUTS, 1))),
         ("temperature of a heat", Inputs::Heats(draw(|| heat(dice, &gases)))),
         ("station", Inputs::Stations(draw(|| (lean(dice), dice.from_to(200_000, 2_000_000))))),

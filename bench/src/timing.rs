@@ -20,15 +20,16 @@ pub fn side_by_side(
     proved: &mut dyn FnMut(usize) -> u64,
     plain: &mut dyn FnMut(usize) -> u64,
 ) -> Times {
-    let calls = (ROUND / round(inputs, inputs.max(64), plain)).ceil() as usize;
+    let calls = (ROUND / round(inputs, 0, inputs.max(64), plain)).ceil() as usize;
     let mut times = Vec::new();
     for i in 0..ROUNDS {
+        let from = i * calls;
         let (a, b) = if i % 2 == 0 {
-            let a = round(inputs, calls, proved);
-            (a, round(inputs, calls, plain))
+            let a = round(inputs, from, calls, proved);
+            (a, round(inputs, from, calls, plain))
         } else {
-            let b = round(inputs, calls, plain);
-            (round(inputs, calls, proved), b)
+            let b = round(inputs, from, calls, plain);
+            (round(inputs, from, calls, proved), b)
         };
         times.push((a, b, a / b));
     }
@@ -39,10 +40,10 @@ pub fn side_by_side(
     }
 }
 
-/// Nanoseconds a call over so many calls, the inputs in turn.
-fn round(inputs: usize, calls: usize, call: &mut dyn FnMut(usize) -> u64) -> f64 {
+/// Nanoseconds a call over so many calls from a number on, the inputs in turn.
+fn round(inputs: usize, from: usize, calls: usize, call: &mut dyn FnMut(usize) -> u64) -> f64 {
     let began = Instant::now();
-    for i in 0..calls {
+    for i in from..from + calls {
         black_box(call(black_box(i % inputs)));
     }
     began.elapsed().as_nanos() as f64 / calls as f64

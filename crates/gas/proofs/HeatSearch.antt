@@ -6,18 +6,16 @@ use Prim.Native.Nat.{ℕ, _+_, _-_, _*_, _/_, _%_, _<_, _≤_}
 use native.Mathlib.Nat.{div-lt-iff-lt-mul, mod-lt}
 use native.Mathlib.Omega.{arith}
 use lib.IntN.{ℤ, pos, _-ℤ_}
-use lib.ListN.{drop, replicate}
-use lib.Seq.{sets}
+use lib.ListN.{length, set, drop, replicate}
+use lib.Seq.{sets, getD-set-same, getD-set-other}
 use lib.Signed.{leZ, _≤ℤ_, _<ℤ_}
 use mir.Syntax.{w64}
 use mir.Val.{SFits}
 use Rattle.signed.specs.Zed.{up, is-self, is-minus, fits-from, zed}
-use Rattle.air.specs.RefusalsLaws.{by-bool}
 use Rattle.air.specs.Halving.{middle, halving, eleven, Halved}
 use Rattle.air.specs.HalvingLaws.{Turn, to-upper, to-lower, Kept, at-most-eleven, looks-placed}
 use Rattle.air.specs.Inverse.{temperature, rest, looks}
 use Rattle.air.specs.InverseLaws.{no-looks, looks-are, row-kept, top-temperature, top-rest, temperature-is, rest-is}
-use Rattle.gas.specs.declared.Heat.{Heat}
 use Rattle.gas.specs.declared.Masses.{Masses}
 use Rattle.gas.specs.declared.TemperatureAnswer.the-variants.{At}
 use Rattle.gas.specs.declared.search.Ends.{Ends}
@@ -25,31 +23,33 @@ use Rattle.gas.specs.Heat.{heatOf, heatSlope}
 use Rattle.gas.specs.RestLaws.{row-of}
 use Rattle.gas.specs.HeatLaws.{heat-straight}
 use Rattle.gas.specs.Sizes.{Ready}
-use Rattle.gas.specs.Search.{heatFits, Known, half, HoldsTarget, divided, Searched}
+use Rattle.gas.specs.Search.{heatFits, ends, Known, HoldsTarget, divided, Searched}
 use Rattle.gas.proofs.Lines.{rise-is, slope-of, heats-rise}
 
--- ---- a look at the middle: the half r of the ends e that is kept
-pub record Halves (m : Masses) (s : List ℕ) (target : ℤ) (e r : Ends) : Type 0 where
-  pub known : Known m s r
-  pub turn : Turn (heatFits m s target) (e .lo) (e .hi) (r .lo) (r .hi)
-  pub narrower : r .hi - r .lo < e .hi - e .lo
+-- ---- a look at the middle: the half from lo to hi that is kept, with the heats there
+pub record Halves (m : Masses) (s : List ℕ) (target : ℤ) (e : Ends) (lo hi : ℕ) (heats : List ℤ) : Type 0 where
+  pub known : Known m s (ends lo hi heats)
+  pub turn : Turn (heatFits m s target) (e .lo) (e .hi) lo hi
+  pub narrower : hi - lo < e .hi - e .lo
 
-pub halves : {m : Masses} {s : List ℕ} (target : ℤ) {e : Ends} → Known m s e → e .lo + 1 < e .hi
-    → (heat : Heat) → heat .0 ≡ heatOf m s (1000 * middle (e .lo) (e .hi))
-    → Halves m s target e (half e (middle (e .lo) (e .hi)) heat target)
-unfolding half heatFits
-halves {m} {s} target {e} k w heat q =
-    by-bool (leZ (heat .0) target)
-    (λ h. rw h (record {
-      known = record { least = omega (arith, k .least); apart = omega arith; most = k .most; under-is = q; over-is = k .over-is };
-      turn = to-upper w (ap (λ (z : ℤ). leZ z target) (sym q) ∙ h);
-      narrower = omega arith;
-    }))
-    (λ h. rw h (record {
-      known = record { least = k .least; apart = omega arith; most = omega (arith, k .most); under-is = k .under-is; over-is = q };
-      turn = to-lower w (ap (λ (z : ℤ). leZ z target) (sym q) ∙ h);
-      narrower = omega arith;
-    }))
+module _ {m : Masses} {s : List ℕ} (target : ℤ) {lo hi : ℕ} (heats : List ℤ) (two : length heats ≡ 2) (k : Known m s (ends lo hi heats)) (w : lo + 1 < hi) {heat : ℤ} (q : heat ≡ heatOf m s (1000 * middle lo hi)) where
+  -- the upper if the heat there is at most the target
+  pub upper : leZ heat target ≡ true → Halves m s target (ends lo hi heats) (middle lo hi) hi (set heats 0 heat)
+  unfolding heatFits
+  upper h = record {
+    known = record { least = omega (arith, k .least); apart = omega arith; most = k .most; under-is = getD-set-same heats 0 heat (pos 0) (omega (arith, two)) ∙ q; over-is = getD-set-other heats 0 1 heat (pos 0) (λ e. omega arith) ∙ k .over-is };
+    turn = to-upper w (ap (λ (z : ℤ). leZ z target) (sym q) ∙ h);
+    narrower = omega arith;
+  }
+
+  -- else the lower
+  pub lower : leZ heat target ≡ false → Halves m s target (ends lo hi heats) lo (middle lo hi) (set heats 1 heat)
+  unfolding heatFits
+  lower h = record {
+    known = record { least = k .least; apart = omega arith; most = omega (arith, k .most); under-is = getD-set-other heats 1 0 heat (pos 0) (λ e. omega arith) ∙ k .under-is; over-is = getD-set-same heats 1 heat (pos 0) (omega (arith, two)) ∙ q };
+    turn = to-lower w (ap (λ (z : ℤ). leZ z target) (sym q) ∙ h);
+    narrower = omega arith;
+  }
 
 -- ---- the division in a row that holds the target
 module _ {target : ℤ} {row : Ends} (h : HoldsTarget target row) where

@@ -1,16 +1,15 @@
--- What the search of src/search.rt asks and shows past the refusals: its two ends, the half that is kept, the row that is left and the division in it.
+-- What the search of src/search.rt asks and shows past the refusals: its two ends, the row that is left and the division in it.
 use mathlib.Core.Path.{_≡_}
-use mathlib.Core.Bool.{Bool, cond}
+use mathlib.Core.Bool.{Bool}
 use mathlib.Core.List.{List, _++_}
 use Prim.Native.Nat.{ℕ, _+_, _*_, _/_, _%_, _<_, _≤_}
 use lib.IntN.{ℤ, pos, _-ℤ_}
-use lib.ListN.{drop}
-use lib.Signed.{leZ, _≤ℤ_, _<ℤ_}
+use lib.ListN.{getD, drop}
+use lib.Signed.{_≤ℤ_, _<ℤ_}
 use Rattle.signed.specs.Zed.{up}
 use Rattle.air.specs.Halving.{eleven, Halved}
 use Rattle.air.specs.Inverse.{fits, temperature, rest, looks}
 use Rattle.gas.specs.declared.Masses.{Masses}
-use Rattle.gas.specs.declared.Heat.{Heat}
 use Rattle.gas.specs.declared.TemperatureAnswer.{TemperatureAnswer}
 use Rattle.gas.specs.declared.TemperatureAnswer.the-variants.{At}
 use Rattle.gas.specs.declared.search.Ends.{Ends}
@@ -29,12 +28,12 @@ pub record Known (m : Masses) (s : List ℕ) (e : Ends) : Type 0 where
   pub under-is : e .under .0 ≡ heatOf m s (1000 * e .lo)
   pub over-is : e .over .0 ≡ heatOf m s (1000 * e .hi)
 
--- the half that is kept after a look at the middle: the upper if the heat there is at most the target, else the lower
-unfoldable pub half : Ends → ℕ → Heat → ℤ → Ends
-half e middle heat target =
-    cond (leZ (heat .0) target)
-    (record { lo = middle; hi = e .hi; under = heat; over = e .over })
-    (record { lo = e .lo; hi = middle; under = e .under; over = heat })
+-- the masses and the ends as a search holds them: the oxygen used beside the air, CO2 and H2O in a list; the two whole kelvins beside the heats there
+abbrev pub massesIn : ℤ → List ℕ → Masses
+massesIn used others = record { air = getD others 0 0; used = used; co2 = getD others 1 0; h2o = getD others 2 0 }
+
+abbrev pub ends : ℕ → ℕ → List ℤ → Ends
+ends lo hi heats = record { lo = lo; hi = hi; under = record { 0 = getD heats 0 (pos 0) }; over = record { 0 = getD heats 1 (pos 0) } }
 
 -- what the search from the ends e leaves: the row that the halving rule keeps, with its heats, and the lent list with the looks
 pub record Narrowed (m : Masses) (s : List ℕ) (target : ℤ) (e : Ends) (at : ℕ) (before : List ℕ) (r : Ends) (after : List ℕ) : Type 0 where
