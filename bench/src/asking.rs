@@ -1,6 +1,7 @@
 //! 10,000 requests through the program `keys ask`, beside the same through this program's plain calls.
 
 use crate::rows::{heat, mark, walks};
+use crate::timing::Times;
 use second::answer::{answer, fields};
 use second::dice::Dice;
 use second::gas::{Charge, Gases};
@@ -20,33 +21,21 @@ pub fn print_row(sheet: &[u32]) {
         return;
     };
     let lines = requests(sheet);
+    let expected: String = lines.iter().map(|line| answer(line, Ok(sheet)) + "\n").collect();
     let input = env::temp_dir().join(format!("gaskeys-bench-{}", std::process::id()));
-    fs::write(&input, lines.iter().map(|line| format!("{line}\n")).collect::<String>())
-        .expect("the temporary folder can be written");
+    fs::write(&input, lines.join("\n") + "\n").expect("the temporary folder can be written");
     let own = env::current_exe().expect("a program has a path");
     let sides = [(program.as_path(), "ask"), (own.as_path(), "plain-ask")];
-    let expected: String = lines.iter().map(|line| answer(line, Ok(sheet)) + "\n").collect();
     for (path, word) in sides {
-        assert!(
-            run(path, word, &input).1 == expected.as_bytes(),
-            "{} answers otherwise",
-            path.display()
-        );
+        let wrote = run(path, word, &input).1;
+        assert!(wrote == expected.as_bytes(), "{} answers otherwise", path.display());
     }
-    let mut times = Vec::new();
-    for _ in 0..RUNS {
-        let [proved, plain] = sides.map(|(path, word)| run(path, word, &input).0);
-        times.push((proved, plain, proved / plain));
-    }
+    let time = |side: (&Path, &str)| run(side.0, side.1, &input).0 / REQUESTS as f64;
+    let rounds: Vec<(f64, f64)> = (0..RUNS).map(|_| (time(sides[0]), time(sides[1]))).collect();
     fs::remove_file(&input).expect("the file was written");
-    let median = |which: fn(&(f64, f64, f64)) -> f64| {
-        let mut values: Vec<f64> = times.iter().map(which).collect();
-        values.sort_by(f64::total_cmp);
-        values[RUNS / 2]
-    };
-    let [proved, plain] = [median(|t| t.0), median(|t| t.1)].map(|ns| ns / REQUESTS as f64);
-    let ratio = median(|t| t.2);
-    println!("| a request of {REQUESTS} through `keys ask` | random | {plain:.1} | {proved:.1} | {ratio:.2} |");
+    let Times { proved, plain, ratio } = Times::of(&rounds);
+    let name = format!("a request of {REQUESTS} through `keys ask`");
+    println!("| {name} | random | {plain:.1} | {proved:.1} | {ratio:.2} |");
 }
 
 /// target/bin/keys or target/bin/keys_ask, which is the same program.

@@ -3,11 +3,22 @@
 use std::hint::black_box;
 use std::time::Instant;
 
-/// Nanoseconds a call, and the ratio: medians over the rounds.
+/// Nanoseconds of the two sides, and the ratio: medians over the rounds.
 pub struct Times {
     pub proved: f64,
     pub plain: f64,
     pub ratio: f64,
+}
+
+impl Times {
+    /// Of rounds that each timed the proved side and the plain one.
+    pub fn of(rounds: &[(f64, f64)]) -> Times {
+        Times {
+            proved: median(rounds.iter().map(|round| round.0)),
+            plain: median(rounds.iter().map(|round| round.1)),
+            ratio: median(rounds.iter().map(|round| round.0 / round.1)),
+        }
+    }
 }
 
 const ROUNDS: usize = 401;
@@ -21,23 +32,18 @@ pub fn side_by_side(
     plain: &mut dyn FnMut(usize) -> u64,
 ) -> Times {
     let calls = (ROUND / round(inputs, 0, inputs.max(64), plain)).ceil() as usize;
-    let mut times = Vec::new();
+    let mut rounds = Vec::new();
     for i in 0..ROUNDS {
         let from = i * calls;
-        let (a, b) = if i % 2 == 0 {
-            let a = round(inputs, from, calls, proved);
-            (a, round(inputs, from, calls, plain))
+        rounds.push(if i % 2 == 0 {
+            let first = round(inputs, from, calls, proved);
+            (first, round(inputs, from, calls, plain))
         } else {
-            let b = round(inputs, from, calls, plain);
-            (round(inputs, from, calls, proved), b)
-        };
-        times.push((a, b, a / b));
+            let first = round(inputs, from, calls, plain);
+            (round(inputs, from, calls, proved), first)
+        });
     }
-    Times {
-        proved: median(times.iter().map(|t| t.0)),
-        plain: median(times.iter().map(|t| t.1)),
-        ratio: median(times.iter().map(|t| t.2)),
-    }
+    Times::of(&rounds)
 }
 
 /// Nanoseconds a call over so many calls from a number on, the inputs in turn.
