@@ -1,7 +1,7 @@
 -- The texts of answers from their parts: looks that places hold, numbers one after the other, a line by its first field. Assumes nothing.
 use Prim.Native.Nat.{ℕ, zero, suc, _+_, _-_, _*_, _≤_, _<_}
 use mathlib.Core.Path.{_≡_, refl, sym, _∙_, ap}
-use mathlib.Core.Bool.{Bool, true, false, _&&_, cond, true≢false}
+use mathlib.Core.Bool.{Bool, true, false, cond, true≢false}
 use mathlib.Core.List.{List, [], _∷_, _++_, map, append-assoc, append-nil}
 use native.Mathlib.Omega.{arith}
 use native.Mathlib.Numerals.{add-one}
@@ -11,13 +11,11 @@ use lib.IntN.{ℤ, pos}
 use lib.ListN.{length, take, drop, getD, replicate, length-drop}
 use lib.Seq.{take-suc, drop-cons}
 use Rattle.signed.specs.Zed.{eqZ}
-use Rattle.text.specs.Decimal.{decimal, decimalZ}
-use Rattle.text.specs.Put.{Put}
-use Rattle.text.specs.PutLaws.{put-then}
+use Rattle.text.specs.Decimal.{decimal}
 use Rattle.text.specs.ReadingLaws.{and-left, and-right}
 use Rattle.fields.specs.Fields.{spanOf, fieldsOf, fieldsFrom}
 use Rattle.fields.specs.FieldsLaws.{fields-at}
-use Rattle.air.specs.Halving.{Search, middle, stopped, looked, halving, eleven}
+use Rattle.air.specs.Halving.{halving, eleven}
 use Rattle.air.specs.HalvingLaws.{halving-ind}
 use Rattle.air.specs.Inverse.{fits, looks, Found, written}
 use Rattle.air.specs.declared.Refusal.{Refusal}

@@ -7,7 +7,6 @@ use lib.Dec.{lit≤}
 use lib.IntN.{ℤ, pos}
 use lib.ListN.{replicate}
 use Rattle.text.specs.Decimal.{decimal}
-use Rattle.air.specs.Refusals.{Told}
 use Rattle.air.specs.declared.Refusal.the-variants.{AtRow}
 use Rattle.signed.specs.Zed.{inZ}
 use Rattle.sheet.specs.Sheet.{Accepted}
@@ -17,7 +16,7 @@ use Rattle.gas.specs.declared.Charge.{Charge}
 use Rattle.gas.specs.Burning.{document01, beyond, lean, oxygenUsed}
 use Rattle.gas.specs.Examples.{charge}
 use Rattle.walk.specs.Examples.{printedSteps, told-printed, first-looks, second-looks}
-use Rattle.walk.specs.Walk.{Trace, ended, run, stepsOf, startLines, startState, walked}
+use Rattle.walk.specs.Walk.{ended, run, stepsOf, startLines, startState, walked}
 use Rattle.console.specs.Walks.{walkTold, headerText, refusedLine, printedWalk}
 
 -- step, mK, rest, looks; 1, 200500, 1, 10; 2, 200501, 0, 10

@@ -22,10 +22,10 @@ use Rattle.gas.specs.declared.Charge.{Charge}
 use Rattle.gas.specs.declared.Gas.{Gas}
 use Rattle.gas.specs.Burning.{Weights, document01, gasOf}
 use Rattle.gas.specs.Heat.{gasHeat, contentAbove15, specificContent}
-use Rattle.gas.specs.Answers.{chargeLines, temperatureLines, heatOrder, searchOrder, inverseTold}
+use Rattle.gas.specs.Answers.{chargeLines, temperatureLines, heatOrder, searchOrder}
 use Rattle.air.specs.Inverse.{unreached, found, looks}
 use Rattle.marking.specs.Figures.{stationSpecific, stationMass}
-use Rattle.walk.specs.Walk.{Trace, run, width, stepsOf, startLines, startState, walked}
+use Rattle.walk.specs.Walk.{run, width, stepsOf, startLines, startState, walked}
 use Rattle.console.specs.declared.requests.Request.{Request}
 use Rattle.console.specs.declared.requests.Request.the-variants.{AirHeat, AirPsi, AirCp, AirTemperature, Burn, OfGas, Walk, Mark, Unknown}
 use Rattle.console.specs.declared.requests.Quantity.{Quantity}

@@ -1,7 +1,7 @@
 -- What the lists that a walk wrote show, step by step, for the code that puts a walk: the text of its answer and its places. That this is the text of the walk
 -- (specs/Walks.antt) is the law `walk-shown`.
 use Prim.Native.Nat.{ℕ, zero, suc, _*_, _≤_, min}
-use mathlib.Core.List.{List, [], _∷_, _++_}
+use mathlib.Core.List.{List, [], _++_}
 use lib.IntN.{ℤ, pos}
 use lib.ListN.{length, take, drop, getD}
 use Rattle.fields.specs.declared.Numbers.{Numbers}

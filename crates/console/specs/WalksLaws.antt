@@ -11,7 +11,7 @@ use borrow.Author.Tests.{lt-ltb, le-leb, lt-leb}
 use lib.IntN.{ℤ, pos}
 use lib.ListN.{length, take, drop, getD, set, length-append, length-take, length-drop, length-set, length-map}
 use lib.Seq.{sets, sets-eq, length-sets, take-at, drop-at, drop-append-le, getD-drop, drop-drop, getD-set-same, getD-set-other}
-use lib.Dec.{leb, eqb, lit<}
+use lib.Dec.{eqb, lit<}
 use Rattle.text.specs.Put.{Put}
 use Rattle.text.specs.PutLaws.{put-none, put-then}
 use Rattle.fields.specs.declared.Numbers.{Numbers}

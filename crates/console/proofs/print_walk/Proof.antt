@@ -2,24 +2,16 @@ use Rattle.console.specs.JudgedLaws.{judged-of, printed-once}
 use borrow.Author.Needs.{needs}
 use Rattle.console.proofs.print_walk.Statement.{statement}
 use Rattle.console.proofs.print_walk.Tie as tie
-use Rattle.console.proofs.print_walk.Reads as reads
-use Rattle.console.proofs.print_walk.Lts as lts
-use Rattle.console.proofs.inner.print_judged.Reads as print-judged-reads
-use Rattle.sheet.proofs.judge_sheet.Reads as judge-sheet-reads
 
--- src/lib.rt:36:43
 judge-sheet-requires : tie.Need-judge-sheet-requires
 judge-sheet-requires c κs = search needs
 
--- src/lib.rt:36:5
 print-judged-requires : tie.Need-print-judged-requires
 print-judged-requires c κs = judged-of (c .before .before .before .before .args .sheet .now) (c .before .judge-sheet .result) (c .before .judge-sheet .ensures)
 
--- src/lib.rt:26:1
 same-length : tie.Need-same-length
 same-length c = search needs
 
--- src/lib.rt:26:1
 returns : tie.Need-returns
 returns c = rw (printed-once (c .before .before .before .before .before .before .before .args .sheet .now) (c .before .before .before .before .before .before .before .args .charge) ((c .before .before .before .before .before .before .before .args .t) .0) (c .before .before .before .before .before .before .before .args .steps .now) (c .before .before .before .before .judge-sheet .result) (c .before .before .before .before .judge-sheet .ensures)) at (c .before .before .print-judged .ensures)
 
