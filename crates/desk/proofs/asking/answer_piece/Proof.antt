@@ -1,13 +1,13 @@
 use native.Mathlib.Omega.{arith}
 use lib.ListN.{length}
 use mathlib.Core.Path.{_≡_}
-use Prim.Native.Nat.{_-_}
+use Prim.Native.Nat.{_/_, _-_, _≤_}
 use borrow.Author.Needs.{needs}
 use Rattle.desk.proofs.asking.answer_piece.Statement.{statement}
 use Rattle.desk.proofs.asking.answer_piece.Tie as tie
 
 abbrev Inv-loop : tie.InvT-loop
-Inv-loop piece verdict sheet line₀ out₀ held₀ at₀ from₀ line out held at from = (length line ≡ length line₀) × (length out ≡ length out₀)
+Inv-loop piece verdict sheet line₀ out₀ held₀ at₀ from₀ line out held at from = (length line ≡ length line₀) × (length out ≡ length out₀) × (at ≤ length out / 2)
 
 abbrev μ-loop : tie.MeasureT-loop
 μ-loop piece verdict sheet line₀ out₀ held₀ at₀ from₀ line out held at from = length piece - from
