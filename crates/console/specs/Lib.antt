@@ -7,5 +7,6 @@ pub mod Answers
 pub mod AnswersLaws
 pub mod WalksLaws
 pub mod JudgedLaws
+pub mod RoomLaws
 pub mod OneOutcome
 pub mod Examples

@@ -4,6 +4,8 @@ use libc::STDIN_FILENO;
 use sheet::SheetAnswer;
 use stream::Got;
 use stream::Held;
+ghost use Prim.Native.Nat.{_+_, _/_, _≤_};
+ghost use lib.ListN.{length};
 ghost use Rattle.console.specs.Answers.{Judged};
 
 // Answers every line of standard input.
@@ -24,7 +26,7 @@ fn answer_input(
     line: &mut [u8],
     out: &mut [u8],
 )
-    requires { ⌜ Judged verdict (now sheet) ⌝ }
+    requires { ⌜ Judged verdict (now sheet) × (16384 ≤ length (now out)) ⌝ }
 {
     let mut held = Held::Bytes(0);
     let mut turns = u64::MAX;
@@ -54,7 +56,7 @@ fn answer_piece(
     line: &mut [u8],
     out: &mut [u8],
 ) -> Held
-    requires { ⌜ Judged verdict (now sheet) ⌝ }
+    requires { ⌜ Judged verdict (now sheet) × (16384 ≤ length (now out)) ⌝ }
 {
     let mut held = held;
     let mut at = 0;
@@ -74,7 +76,7 @@ fn answer_piece(
 
 // Answers a last line that no line feed ended.
 fn answer_last(held: Held, line: &[u8], verdict: SheetAnswer, sheet: &[u32], out: &mut [u8])
-    requires { ⌜ Judged verdict (now sheet) ⌝ }
+    requires { ⌜ Judged verdict (now sheet) × (16384 ≤ length (now out)) ⌝ }
 {
     if let Held::Bytes(n) = held {
         if n == 0 {
@@ -85,7 +87,7 @@ fn answer_last(held: Held, line: &[u8], verdict: SheetAnswer, sheet: &[u32], out
     stream::flush(out, at);
 }
 
-// Answers the line that is held, and writes the answers where they fill half of the output.
+// Answers the line that is held, and writes the answers where they fill half of the output. No answer is longer than 8,192 bytes (`answer-short` of the console), so none is cut.
 fn answer_held(
     held: Held,
     line: &[u8],
@@ -94,7 +96,8 @@ fn answer_held(
     out: &mut [u8],
     at: usize,
 ) -> usize
-    requires { ⌜ Judged verdict (now sheet) ⌝ }
+    requires { ⌜ Judged verdict (now sheet) × (at + 8192 ≤ length (now out)) ⌝ }
+    ensures { λ r. ⌜ r ≤ length (now (out .exit)) / 2 ⌝ }
 {
     match held {
         Held::Bytes(n) => {

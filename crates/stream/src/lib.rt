@@ -1,6 +1,7 @@
 // Lines from standard input and answers to standard output, for the programs. No contract can say what is read or written, so these calls promise that they are
 // safe and end; what is done with a line is promised by the library that answers it.
-ghost use Prim.Native.Nat.{_≤_};
+ghost use mathlib.Core.Path.{_≡_};
+ghost use Prim.Native.Nat.{_≤_, _/_};
 ghost use lib.ListN.{length};
 ghost use Rattle.stream.specs.Taking.{Gone, Inside};
 use libc::STDIN_FILENO;
@@ -101,13 +102,17 @@ pub fn write_some(fd: i32, what: &[u8], out: &[u8], at: usize) {
 }
 
 // Writes what is filled of the output. Answers the place to go on at, the start.
-pub fn flush(out: &[u8], at: usize) -> usize {
+pub fn flush(out: &[u8], at: usize) -> usize
+    ensures { λ r. ⌜ r ≡ 0 ⌝ }
+{
     write_some(STDOUT_FILENO, b"standard output", out, at);
     0
 }
 
 // Flushes where less than half of the output is free. Answers the place to go on at.
-pub fn make_room(out: &[u8], at: usize) -> usize {
+pub fn make_room(out: &[u8], at: usize) -> usize
+    ensures { λ r. ⌜ r ≤ length (now (out .entry)) / 2 ⌝ }
+{
     if at < out.len() / 2 {
         return at;
     }

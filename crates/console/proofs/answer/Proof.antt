@@ -3,19 +3,15 @@ use borrow.Author.Needs.{needs}
 use Rattle.console.proofs.answer.Statement.{statement}
 use Rattle.console.proofs.answer.Tie as tie
 
--- src/lib.rt:17:32
 judge-sheet-requires : tie.Need-judge-sheet-requires
 judge-sheet-requires c κs = search needs
 
--- src/lib.rt:17:5
 answer-judged-requires : tie.Need-answer-judged-requires
 answer-judged-requires c κs = judged-of (c .before .before .before .before .before .args .sheet .now) (c .before .judge-sheet .result) (c .before .judge-sheet .ensures)
 
--- src/lib.rt:14:1
 same-length : tie.Need-same-length
 same-length c = search needs
 
--- src/lib.rt:14:1
 returns : tie.Need-returns
 returns c = rw (judged-once (c .before .before .before .before .before .before .before .before .args .sheet .now) (c .before .before .before .before .before .before .before .before .args .line .now) (c .before .before .before .before .judge-sheet .result) (c .before .before .before .before .judge-sheet .ensures)) at (c .before .before .answer-judged .ensures)
 

@@ -3,19 +3,15 @@ use borrow.Author.Needs.{needs}
 use Rattle.console.proofs.print_walk.Statement.{statement}
 use Rattle.console.proofs.print_walk.Tie as tie
 
--- src/lib.rt:36:43
 judge-sheet-requires : tie.Need-judge-sheet-requires
 judge-sheet-requires c κs = search needs
 
--- src/lib.rt:36:5
 print-judged-requires : tie.Need-print-judged-requires
 print-judged-requires c κs = judged-of (c .before .before .before .before .args .sheet .now) (c .before .judge-sheet .result) (c .before .judge-sheet .ensures)
 
--- src/lib.rt:26:1
 same-length : tie.Need-same-length
 same-length c = search needs
 
--- src/lib.rt:26:1
 returns : tie.Need-returns
 returns c = rw (printed-once (c .before .before .before .before .before .before .before .args .sheet .now) (c .before .before .before .before .before .before .before .args .charge) ((c .before .before .before .before .before .before .before .args .t) .0) (c .before .before .before .before .before .before .before .args .steps .now) (c .before .before .before .before .judge-sheet .result) (c .before .before .before .before .judge-sheet .ensures)) at (c .before .before .print-judged .ensures)
 

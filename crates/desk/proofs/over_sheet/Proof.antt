@@ -6,66 +6,51 @@ use borrow.Author.Needs.{needs}
 use Rattle.desk.proofs.over_sheet.Statement.{statement}
 use Rattle.desk.proofs.over_sheet.Tie as tie
 
--- src/lib.rt:27:20
 built-in-requires : tie.Need-built-in-requires
 built-in-requires c κs = search needs
 
--- src/lib.rt:30:46
 enum-told : tie.Need-enum-told
 enum-told c = search needs
 
--- src/lib.rt:30:46
 slice-aggregate-judge-sheet : tie.Need-slice-aggregate-judge-sheet
 slice-aggregate-judge-sheet c = search needs
 
--- src/lib.rt:30:17
 judge-sheet-requires : tie.Need-judge-sheet-requires
 judge-sheet-requires c κs = search needs
 
--- src/lib.rt:31:33
 slice-aggregate-serve : tie.Need-slice-aggregate-serve
 slice-aggregate-serve c = search needs
 
--- src/lib.rt:31:13
 serve-requires : tie.Need-serve-requires
 serve-requires c κs = judged-of (c .before .before .before .before .before .built-in .result) (c .before .judge-sheet .result) (c .before .judge-sheet .ensures)
 
--- src/lib.rt:33:25
 enum-known-named : tie.Need-enum-known-named
 enum-known-named c = search needs
 
--- src/lib.rt:33:53
 slice-aggregate-read : tie.Need-slice-aggregate-read
 slice-aggregate-read c = search needs
 
--- src/lib.rt:33:37
 read-requires : tie.Need-read-requires
 read-requires c κs = search needs
 
--- src/lib.rt:34:25
 enum-known-verdict : tie.Need-enum-known-verdict
 enum-known-verdict c = search needs
 
--- src/lib.rt:34:57
 slice-aggregate-serve-2 : tie.Need-slice-aggregate-serve-2
 slice-aggregate-serve-2 c = search needs
 
--- src/lib.rt:34:37
 serve-requires-2 : tie.Need-serve-requires-2
 serve-requires-2 c κs = subst (λ (v : Verdict). Known v (c .before .before .before .before .before .read .last .1 .0)) (c .before .before .verdict .given .1) (c .before .before .before .before .before .read .ensures)
 
 enum-told-2 : tie.Need-enum-told-2
 enum-told-2 c = search needs
 
--- src/lib.rt:26:1
 returns : tie.Need-returns
 returns c = search needs
 
--- src/lib.rt:26:1
 returns-2 : tie.Need-returns-2
 returns-2 c = search needs
 
--- src/lib.rt:26:1
 returns-3 : tie.Need-returns-3
 returns-3 c = search needs
 

@@ -3,19 +3,15 @@ use borrow.Author.Needs.{needs}
 use Rattle.fields.proofs.counted.Statement.{statement}
 use Rattle.fields.proofs.counted.Tie as tie
 
--- src/lib.rt:80:24
 enum-known-n : tie.Need-enum-known-n
 enum-known-n c = search needs
 
--- src/lib.rt:81:25
 enum-told : tie.Need-enum-told
 enum-told c = search needs
 
--- src/lib.rt:76:1
 returns : tie.Need-returns
 returns c = rw (c .before .n .given .1) refl
 
--- src/lib.rt:76:1
 returns-2 : tie.Need-returns-2
 returns-2 c = search needs
 

@@ -4,23 +4,18 @@ use borrow.Author.Needs.{needs}
 use Rattle.fields.proofs.keep.Statement.{statement}
 use Rattle.fields.proofs.keep.Tie as tie
 
--- src/lib.rt:41:9
 mul-z : tie.Need-mul-z
 mul-z c = search needs
 
--- src/lib.rt:41:9
 slice-set-from-z : tie.Need-slice-set-from-z
 slice-set-from-z c = search needs
 
--- src/lib.rt:37:1
 same-length : tie.Need-same-length
 same-length c = search needs
 
--- src/lib.rt:37:1
 returns : tie.Need-returns
 returns c = search needs
 
--- src/lib.rt:37:1
 returns-2 : tie.Need-returns-2
 returns-2 c = sym (set-past (c .before .args .list .now) (c .before .args .n) (c .before .args .z) (c .if1 .left))
 

@@ -12,35 +12,27 @@ use borrow.Author.Needs.{needs}
 use Rattle.fields.proofs.read_four.Statement.{statement}
 use Rattle.fields.proofs.read_four.Tie as tie
 
--- src/lib.rt:117:38
 slice-aggregate-read-numbers : tie.Need-slice-aggregate-read-numbers
 slice-aggregate-read-numbers c = search needs
 
--- src/lib.rt:117:9
 read-numbers-requires : tie.Need-read-numbers-requires
 read-numbers-requires c κs = search needs
 
--- src/lib.rt:118:8
 counted-requires : tie.Need-counted-requires
 counted-requires c κs = search needs
 
--- src/lib.rt:118:34
 array-copy-out-t11 : tie.Need-array-copy-out-t11
 array-copy-out-t11 c = search needs
 
--- src/lib.rt:118:43
 array-copy-out-t14 : tie.Need-array-copy-out-t14
 array-copy-out-t14 c = search needs
 
--- src/lib.rt:118:52
 array-copy-out-t17 : tie.Need-array-copy-out-t17
 array-copy-out-t17 c = search needs
 
--- src/lib.rt:118:61
 array-copy-out-t20 : tie.Need-array-copy-out-t20
 array-copy-out-t20 c = search needs
 
--- src/lib.rt:113:1
 returns : tie.Need-returns
 returns c =
     let f0 : SFits w64 (getD (c .before .before .before .before .before .before .before .read-numbers .last .1 .1 .0) 0 (pos 0)) = search needs in
@@ -51,7 +43,6 @@ returns c =
     (exactly (λ (l : List ℤ). Are (getD l 0 (pos 0)) (getD l 1 (pos 0)) (getD l 2 (pos 0)) (getD l 3 (pos 0))) Not (fieldsFrom (c .before .before .before .before .before .before .before .before .before .before .args .line .now) (c .before .before .before .before .before .before .before .before .before .before .args .from)) (pos 0 ∷ pos 0 ∷ pos 0 ∷ pos 0 ∷ []) (c .before .before .before .before .before .before .before .read-numbers .last .1 .1 .0) 4
     (c .before .before .before .before .before .before .before .read-numbers .ensures .0) (c .before .before .before .before .before .counted .ensures) (c .before .before .before .before .if1 .taken) refl (c .before .before .before .before .before .before .before .read-numbers .ensures .1))
 
--- src/lib.rt:113:1
 returns-2 : tie.Need-returns-2
 returns-2 c = not-exactly (Are (getD (valuesOf (fieldsFrom (c .before .before .before .before .before .before .args .line .now) (c .before .before .before .before .before .before .args .from))) 0 (pos 0)) (getD (valuesOf (fieldsFrom (c .before .before .before .before .before .before .args .line .now) (c .before .before .before .before .before .before .args .from))) 1 (pos 0)) (getD (valuesOf (fieldsFrom (c .before .before .before .before .before .before .args .line .now) (c .before .before .before .before .before .before .args .from))) 2 (pos 0)) (getD (valuesOf (fieldsFrom (c .before .before .before .before .before .before .args .line .now) (c .before .before .before .before .before .before .args .from))) 3 (pos 0))) Not (fieldsFrom (c .before .before .before .before .before .before .args .line .now) (c .before .before .before .before .before .before .args .from)) 4 (c .before .before .before .read-numbers .ensures .0) (c .before .counted .ensures) (c .if1 .left)
 

@@ -21,63 +21,48 @@ Inv-loop line from list₀ p₀ n₀ list p n = (n ≤ p) × (length list ≡ le
 abbrev μ-loop : tie.MeasureT-loop
 μ-loop line from list₀ p₀ n₀ list p n = length line + 1 - p
 
--- src/lib.rt:53:5
 loop-holds : tie.Need-loop-holds Inv-loop μ-loop
 loop-holds c = (omega arith, refl, refl, refl)
 
--- src/lib.rt:54:13
 field-end-requires : tie.Need-field-end-requires Inv-loop μ-loop
 field-end-requires c κs = omega arith
 
--- src/lib.rt:55:47
 sub-read-whole : tie.Need-sub-read-whole Inv-loop μ-loop
 sub-read-whole c = omega (arith, c .field-end .ensures)
 
--- src/lib.rt:55:47
 part-read-whole-start : tie.Need-part-read-whole-start Inv-loop μ-loop
 part-read-whole-start c = omega (arith, c .field-end .ensures)
 
--- src/lib.rt:55:47
 part-read-whole-end : tie.Need-part-read-whole-end Inv-loop μ-loop
 part-read-whole-end c = omega (arith, c .field-end .ensures, span-from (c .before .before .before .before .args .line .now) (c .before .before .loop .p) (omega arith))
 
--- src/lib.rt:55:28
 read-whole-requires : tie.Need-read-whole-requires Inv-loop μ-loop
 read-whole-requires c κs = tt
 
--- src/lib.rt:55:23
 enum-known-z : tie.Need-enum-known-z Inv-loop μ-loop
 enum-known-z c = search needs
 
--- src/lib.rt:56:13
 enum-told : tie.Need-enum-told Inv-loop μ-loop
 enum-told c = search needs
 
--- src/lib.rt:56:13
 same-length : tie.Need-same-length Inv-loop μ-loop
 same-length c = c .before .before .before .before .before .before .loop .inv .1
 
--- src/lib.rt:56:13
 returns : tie.Need-returns Inv-loop μ-loop
 returns c = (sym (c .before .before .before .before .before .before .loop .inv .2 ∙ count-bad (c .before .before .before .before .before .before .before .before .args .line .now) (c .before .before .before .before .before .before .loop .p) (c .before .before .before .before .field-end .result) (c .before .before .before .before .before .before .loop .n) (omega arith) (c .before .before .before .before .field-end .ensures) (sym (c .before .before .read-whole .ensures) ∙ c .enum-told .given .1)), tt)
 
--- src/lib.rt:58:9
 keep-requires : tie.Need-keep-requires Inv-loop μ-loop
 keep-requires c κs = tt
 
--- src/lib.rt:59:9
 add-n : tie.Need-add-n Inv-loop μ-loop
 add-n c = omega arith
 
--- src/lib.rt:60:13
 add-p : tie.Need-add-p Inv-loop μ-loop
 add-p c = omega (arith, c .before .before .before .before .before .before .before .before .field-end .ensures, span-from (c .before .before .before .before .before .before .before .before .before .before .before .before .args .line .now) (c .before .before .before .before .before .before .before .before .before .before .loop .p) (omega arith))
 
--- src/lib.rt:53:5
 loop-less : tie.Need-loop-less Inv-loop μ-loop
 loop-less c = omega (arith, c .before .before .before .before .before .before .before .before .field-end .ensures)
 
--- src/lib.rt:53:5
 loop-again : tie.Need-loop-again Inv-loop μ-loop
 loop-again c = let f : SFits w64 (c .before .before .before .before .z .given .0 .0) = search needs in
     let r : wholeOf (take (c .before .before .before .before .before .before .before .before .field-end .result - c .before .before .before .before .before .before .before .before .before .before .loop .p) (drop (c .before .before .before .before .before .before .before .before .before .before .loop .p) (c .before .before .before .before .before .before .before .before .before .before .before .before .args .line .now))) ≡ Is (c .before .before .before .before .z .given .0 .0) = sym (c .before .before .before .before .before .before .read-whole .ensures) ∙ c .before .before .before .before .z .given .1 in
@@ -88,11 +73,9 @@ loop-again c = let f : SFits w64 (c .before .before .before .before .z .given .0
       c .before .before .before .before .before .before .before .before .before .before .loop .inv .3 ∙ (sets-next (c .before .before .before .before .before .before .before .before .before .before .before .before .args .line .now) (c .before .before .before .before .before .before .before .before .before .before .loop .p) (c .before .before .before .before .before .before .before .before .field-end .result) (c .before .before .before .before .before .before .before .before .before .before .loop .n) (c .before .before .before .before .z .given .0 .0) (c .before .before .before .before .before .before .before .before .before .before .loop .list) (omega arith) (c .before .before .before .before .before .before .before .before .field-end .ensures) r ∙ ap (λ x. sets x (c .before .before .before .before .before .before .before .before .before .before .loop .n + 1) (valuesOf (fieldsFrom (c .before .before .before .before .before .before .before .before .before .before .before .before .args .line .now) (c .before .before .before .before .before .before .before .before .field-end .result + 1)))) (sym k)),
     )
 
--- src/lib.rt:46:1
 same-length-2 : tie.Need-same-length-2 Inv-loop μ-loop
 same-length-2 c = c .before .loop .inv .1
 
--- src/lib.rt:46:1
 returns-2 : tie.Need-returns-2 Inv-loop μ-loop
 returns-2 c = let e : fieldsFrom (c .before .before .before .args .line .now) (c .before .loop .p) ≡ [] = fields-none (c .before .before .before .args .line .now) (c .before .loop .p) (omega arith) in
     (sym (c .before .loop .inv .2 ∙ ap (countAll (c .before .loop .n)) e), sym (c .before .loop .inv .3 ∙ ap (λ x. sets (c .before .loop .list) (c .before .loop .n) (valuesOf x)) e))

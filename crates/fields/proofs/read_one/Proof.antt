@@ -12,23 +12,18 @@ use borrow.Author.Needs.{needs}
 use Rattle.fields.proofs.read_one.Statement.{statement}
 use Rattle.fields.proofs.read_one.Tie as tie
 
--- src/lib.rt:90:38
 slice-aggregate-read-numbers : tie.Need-slice-aggregate-read-numbers
 slice-aggregate-read-numbers c = search needs
 
--- src/lib.rt:90:9
 read-numbers-requires : tie.Need-read-numbers-requires
 read-numbers-requires c κs = search needs
 
--- src/lib.rt:91:8
 counted-requires : tie.Need-counted-requires
 counted-requires c κs = search needs
 
--- src/lib.rt:91:34
 array-copy-out-t11 : tie.Need-array-copy-out-t11
 array-copy-out-t11 c = search needs
 
--- src/lib.rt:86:1
 returns : tie.Need-returns
 returns c =
     let f0 : SFits w64 (getD (c .before .before .before .before .read-numbers .last .1 .1 .0) 0 (pos 0)) = search needs in
@@ -36,7 +31,6 @@ returns c =
     (exactly (λ (l : List ℤ). Is (getD l 0 (pos 0))) Not (fieldsFrom (c .before .before .before .before .before .before .before .args .line .now) (c .before .before .before .before .before .before .before .args .from)) (pos 0 ∷ []) (c .before .before .before .before .read-numbers .last .1 .1 .0) 1
     (c .before .before .before .before .read-numbers .ensures .0) (c .before .before .counted .ensures) (c .before .if1 .taken) refl (c .before .before .before .before .read-numbers .ensures .1))
 
--- src/lib.rt:86:1
 returns-2 : tie.Need-returns-2
 returns-2 c = not-exactly (Is (getD (valuesOf (fieldsFrom (c .before .before .before .before .before .before .args .line .now) (c .before .before .before .before .before .before .args .from))) 0 (pos 0))) Not (fieldsFrom (c .before .before .before .before .before .before .args .line .now) (c .before .before .before .before .before .before .args .from)) 1 (c .before .before .before .read-numbers .ensures .0) (c .before .counted .ensures) (c .if1 .left)
 

@@ -5,47 +5,36 @@ use borrow.Author.Needs.{needs}
 use Rattle.stream.proofs.read_piece.Statement.{statement}
 use Rattle.stream.proofs.read_piece.Tie as tie
 
--- src/lib.rt:86:35
 slice-aggregate-read-some : tie.Need-slice-aggregate-read-some
 slice-aggregate-read-some c = search needs
 
--- src/lib.rt:86:11
 read-some-requires : tie.Need-read-some-requires
 read-some-requires c κs = search needs
 
--- src/lib.rt:87:20
 enum-known-n : tie.Need-enum-known-n
 enum-known-n c = search needs
 
--- src/lib.rt:88:21
 enum-told : tie.Need-enum-told
 enum-told c = search needs
 
--- src/lib.rt:89:24
 enum-told-2 : tie.Need-enum-told-2
 enum-told-2 c = search needs
 
--- src/lib.rt:83:1
 same-length : tie.Need-same-length
 same-length c = search needs
 
--- src/lib.rt:83:1
 returns : tie.Need-returns
 returns c = subst (λ (g : Got). Inside g (c .before .before .before .before .before .read-some .last .1 .1 .0)) (c .before .n .given .1) (c .before .before .before .before .before .read-some .ensures)
 
--- src/lib.rt:83:1
 same-length-2 : tie.Need-same-length-2
 same-length-2 c = search needs
 
--- src/lib.rt:83:1
 returns-2 : tie.Need-returns-2
 returns-2 c = search needs
 
--- src/lib.rt:83:1
 same-length-3 : tie.Need-same-length-3
 same-length-3 c = search needs
 
--- src/lib.rt:83:1
 returns-3 : tie.Need-returns-3
 returns-3 c = search needs
 

@@ -4,87 +4,66 @@ use borrow.Author.Needs.{needs}
 use Rattle.trials.proofs.answer.Statement.{statement}
 use Rattle.trials.proofs.answer.Tie as tie
 
--- src/lib.rt:223:9
 field-end-requires : tie.Need-field-end-requires
 field-end-requires c κs = search needs
 
--- src/lib.rt:224:26
 sub-asked-by : tie.Need-sub-asked-by
 sub-asked-by c = search needs
 
--- src/lib.rt:224:26
 part-asked-by-start : tie.Need-part-asked-by-start
 part-asked-by-start c = search needs
 
--- src/lib.rt:224:26
 part-asked-by-end : tie.Need-part-asked-by-end
 part-asked-by-end c = omega (arith, c .field-end .ensures, span-from (c .before .before .before .before .args .line .now) 0 (omega arith))
 
--- src/lib.rt:224:9
 asked-by-requires : tie.Need-asked-by-requires
 asked-by-requires c κs = search needs
 
--- src/lib.rt:226:39
 enum-told : tie.Need-enum-told
 enum-told c = search needs
 
--- src/lib.rt:226:39
 add-answer-sheet : tie.Need-add-answer-sheet
 add-answer-sheet c = omega (arith, c .before .before .before .before .field-end .ensures, span-from (c .before .before .before .before .before .before .before .before .args .line .now) 0 (omega arith))
 
--- src/lib.rt:226:13
 answer-sheet-requires : tie.Need-answer-sheet-requires
 answer-sheet-requires c κs = search needs
 
--- src/lib.rt:227:9
 same-length : tie.Need-same-length
 same-length c = search needs
 
--- src/lib.rt:227:9
 same-length-2 : tie.Need-same-length-2
 same-length-2 c = search needs
 
--- src/lib.rt:227:9
 returns : tie.Need-returns
 returns c = search needs
 
--- src/lib.rt:229:9
 least-requires : tie.Need-least-requires
 least-requires c κs = search needs
 
--- src/lib.rt:230:42
 add-answer-asked : tie.Need-add-answer-asked
 add-answer-asked c = omega (arith, c .before .before .before .before .field-end .ensures, span-from (c .before .before .before .before .before .before .before .before .args .line .now) 0 (omega arith))
 
--- src/lib.rt:230:51
 sub-answer-asked : tie.Need-sub-answer-asked
 sub-answer-asked c = search needs
 
--- src/lib.rt:230:51
 part-answer-asked-start : tie.Need-part-answer-asked-start
 part-answer-asked-start c = search needs
 
--- src/lib.rt:230:51
 part-answer-asked-end : tie.Need-part-answer-asked-end
 part-answer-asked-end c = search needs
 
--- src/lib.rt:230:9
 answer-asked-requires : tie.Need-answer-asked-requires
 answer-asked-requires c κs = search needs
 
--- src/lib.rt:233:13
 make-room-requires : tie.Need-make-room-requires
 make-room-requires c κs = search needs
 
--- src/lib.rt:222:1
 same-length-3 : tie.Need-same-length-3
 same-length-3 c = search needs
 
--- src/lib.rt:222:1
 same-length-4 : tie.Need-same-length-4
 same-length-4 c = search needs
 
--- src/lib.rt:222:1
 returns-2 : tie.Need-returns-2
 returns-2 c = search needs
 

@@ -4,39 +4,30 @@ use borrow.Author.Needs.{needs}
 use Rattle.trials.proofs.answer_form.Statement.{statement}
 use Rattle.trials.proofs.answer_form.Tie as tie
 
--- src/lib.rt:190:55
 slice-aggregate-read-numbers : tie.Need-slice-aggregate-read-numbers
 slice-aggregate-read-numbers c = search needs
 
--- src/lib.rt:190:22
 read-numbers-requires : tie.Need-read-numbers-requires
 read-numbers-requires c κs = search needs
 
--- src/lib.rt:190:9
 count-of-requires : tie.Need-count-of-requires
 count-of-requires c κs = search needs
 
--- src/lib.rt:191:31
 array-share-prefix-list : tie.Need-array-share-prefix-list
 array-share-prefix-list c = search needs
 
--- src/lib.rt:191:31
 slice-aggregate-put-form : tie.Need-slice-aggregate-put-form
 slice-aggregate-put-form c = simp length-take (omega arith)
 
--- src/lib.rt:191:9
 put-form-requires : tie.Need-put-form-requires
 put-form-requires c κs = search needs
 
--- src/lib.rt:192:5
 put-byte-requires : tie.Need-put-byte-requires
 put-byte-requires c κs = search needs
 
--- src/lib.rt:188:1
 same-length : tie.Need-same-length
 same-length c = search needs
 
--- src/lib.rt:188:1
 returns : tie.Need-returns
 returns c = search needs
 

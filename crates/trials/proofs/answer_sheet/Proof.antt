@@ -4,39 +4,30 @@ use borrow.Author.Needs.{needs}
 use Rattle.trials.proofs.answer_sheet.Statement.{statement}
 use Rattle.trials.proofs.answer_sheet.Tie as tie
 
--- src/lib.rt:208:55
 slice-aggregate-read-numbers : tie.Need-slice-aggregate-read-numbers
 slice-aggregate-read-numbers c = search needs
 
--- src/lib.rt:208:22
 read-numbers-requires : tie.Need-read-numbers-requires
 read-numbers-requires c κs = search needs
 
--- src/lib.rt:208:9
 count-of-requires : tie.Need-count-of-requires
 count-of-requires c κs = search needs
 
--- src/lib.rt:209:16
 array-share-prefix-list : tie.Need-array-share-prefix-list
 array-share-prefix-list c = search needs
 
--- src/lib.rt:209:16
 slice-aggregate-make-sheet : tie.Need-slice-aggregate-make-sheet
 slice-aggregate-make-sheet c = simp length-take (omega arith)
 
--- src/lib.rt:209:5
 make-sheet-requires : tie.Need-make-sheet-requires
 make-sheet-requires c κs = search needs
 
--- src/lib.rt:206:1
 same-length : tie.Need-same-length
 same-length c = search needs
 
--- src/lib.rt:206:1
 same-length-2 : tie.Need-same-length-2
 same-length-2 c = search needs
 
--- src/lib.rt:206:1
 returns : tie.Need-returns
 returns c = search needs
 

@@ -6,59 +6,45 @@ use borrow.Author.Needs.{needs}
 use Rattle.typed.proofs.finish.Statement.{statement}
 use Rattle.typed.proofs.finish.Tie as tie
 
--- src/lib.rt:148:24
 enum-told : tie.Need-enum-told
 enum-told c = search needs
 
--- src/lib.rt:149:21
 enum-known-s : tie.Need-enum-known-s
 enum-known-s c = search needs
 
--- src/lib.rt:149:57
 quotient-requires : tie.Need-quotient-requires
 quotient-requires c κs = (subst Small (c .before .s .given .1) (c .before .before .before .pre), omega arith)
 
--- src/lib.rt:149:37
 with-sign-requires : tie.Need-with-sign-requires
 with-sign-requires c κs = search needs
 
--- src/lib.rt:150:27
 enum-told-2 : tie.Need-enum-told-2
 enum-told-2 c = search needs
 
--- src/lib.rt:151:24
 enum-known-s-2 : tie.Need-enum-known-s-2
 enum-known-s-2 c = search needs
 
--- src/lib.rt:151:63
 quotient-requires-2 : tie.Need-quotient-requires-2
 quotient-requires-2 c κs = subst Small (c .before .s2 .given .1) (c .before .before .before .pre)
 
--- src/lib.rt:151:43
 with-sign-requires-2 : tie.Need-with-sign-requires-2
 with-sign-requires-2 c κs = search needs
 
--- src/lib.rt:152:22
 enum-told-3 : tie.Need-enum-told-3
 enum-told-3 c = search needs
 
--- src/lib.rt:143:1
 returns : tie.Need-returns
 returns c = search needs
 
--- src/lib.rt:143:1
 returns-2 : tie.Need-returns-2
 returns-2 c = ap Is (c .with-sign .ensures ∙ ap (withSign (c .before .before .before .before .before .args .negative)) (c .before .quotient .ensures)) ∙ sym (ap (finishOf (c .before .before .before .before .before .args .negative)) (c .before .before .before .s .given .1))
 
--- src/lib.rt:143:1
 returns-3 : tie.Need-returns-3
 returns-3 c = search needs
 
--- src/lib.rt:143:1
 returns-4 : tie.Need-returns-4
 returns-4 c = ap Is (c .with-sign2 .ensures ∙ ap (withSign (c .before .before .before .before .before .args .negative)) (c .before .quotient2 .ensures)) ∙ sym (ap (finishOf (c .before .before .before .before .before .args .negative)) (c .before .before .before .s2 .given .1))
 
--- src/lib.rt:143:1
 returns-5 : tie.Need-returns-5
 returns-5 c = search needs
 

@@ -8,20 +8,16 @@ use borrow.Author.Needs.{needs}
 use Rattle.typed.proofs.first_part.Statement.{statement}
 use Rattle.typed.proofs.first_part.Tie as tie
 
--- src/lib.rt:77:8
 takes-requires : tie.Need-takes-requires
 takes-requires c κs = search needs
 
--- src/lib.rt:78:21
 sub-t5 : tie.Need-sub-t5
 sub-t5 c = omega (arith, taken-digit 0 (c .before .before .args .b) (sym (c .before .takes .ensures) ∙ c .if1 .taken))
 
--- src/lib.rt:74:1
 returns : tie.Need-returns
 unfolding firstPart
 returns c = let t : takes 0 (c .before .before .args .b) ≡ true = (sym (c .before .takes .ensures) ∙ c .if1 .taken) in rw t refl
 
--- src/lib.rt:74:1
 returns-2 : tie.Need-returns-2
 unfolding firstPart
 returns-2 c = let t : takes 0 (c .before .before .args .b) ≡ false = (sym (c .before .takes .ensures) ∙ c .if1 .left) in rw t refl

@@ -9,37 +9,29 @@ use borrow.Author.Needs.{needs}
 use Rattle.typed.proofs.next_fraction.Statement.{statement}
 use Rattle.typed.proofs.next_fraction.Tie as tie
 
--- src/lib.rt:103:9
 returns : tie.Need-returns
 unfolding nextFraction
 returns c = rw (le-leb 22 (c .before .args .k) (c .if1 .taken)) refl
 
--- src/lib.rt:105:8
 takes-requires : tie.Need-takes-requires
 takes-requires c κs = search needs
 
--- src/lib.rt:106:24
 mul-t7 : tie.Need-mul-t7
 mul-t7 c = omega (arith, taken-most (c .before .before .before .args .m) (c .before .before .before .args .b) (sym (c .before .takes .ensures) ∙ c .if2 .taken))
 
--- src/lib.rt:106:34
 sub-t9 : tie.Need-sub-t9
 sub-t9 c = omega (arith, taken-digit (c .before .before .before .args .m) (c .before .before .before .args .b) (sym (c .before .takes .ensures) ∙ c .if2 .taken))
 
--- src/lib.rt:106:24
 add-t10 : tie.Need-add-t10
 add-t10 c = omega (arith, taken-most (c .before .before .before .args .m) (c .before .before .before .args .b) (sym (c .before .takes .ensures) ∙ c .if2 .taken))
 
--- src/lib.rt:106:50
 add-t11 : tie.Need-add-t11
 add-t11 c = search needs
 
--- src/lib.rt:99:1
 returns-2 : tie.Need-returns-2
 unfolding nextFraction
 returns-2 c = let t : takes (c .before .before .before .args .m) (c .before .before .before .args .b) ≡ true = (sym (c .before .takes .ensures) ∙ c .if2 .taken) in rw (lt-leb 22 (c .before .before .before .args .k) (c .before .before .if1 .left), t) refl
 
--- src/lib.rt:99:1
 returns-3 : tie.Need-returns-3
 unfolding nextFraction
 returns-3 c = let t : takes (c .before .before .before .args .m) (c .before .before .before .args .b) ≡ false = (sym (c .before .takes .ensures) ∙ c .if2 .left) in rw (lt-leb 22 (c .before .before .before .args .k) (c .before .before .if1 .left), t) refl

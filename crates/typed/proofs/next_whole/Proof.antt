@@ -9,33 +9,26 @@ use borrow.Author.Needs.{needs}
 use Rattle.typed.proofs.next_whole.Statement.{statement}
 use Rattle.typed.proofs.next_whole.Tie as tie
 
--- src/lib.rt:89:9
 returns : tie.Need-returns
 unfolding nextWhole
 returns c = rw (eq-eqb (c .before .args .b) 46 (c .if1 .taken)) refl
 
--- src/lib.rt:91:8
 takes-requires : tie.Need-takes-requires
 takes-requires c κs = search needs
 
--- src/lib.rt:92:21
 mul-t6 : tie.Need-mul-t6
 mul-t6 c = omega (arith, taken-most (c .before .before .before .args .m) (c .before .before .before .args .b) (sym (c .before .takes .ensures) ∙ c .if2 .taken))
 
--- src/lib.rt:92:31
 sub-t8 : tie.Need-sub-t8
 sub-t8 c = omega (arith, taken-digit (c .before .before .before .args .m) (c .before .before .before .args .b) (sym (c .before .takes .ensures) ∙ c .if2 .taken))
 
--- src/lib.rt:92:21
 add-t9 : tie.Need-add-t9
 add-t9 c = omega (arith, taken-most (c .before .before .before .args .m) (c .before .before .before .args .b) (sym (c .before .takes .ensures) ∙ c .if2 .taken))
 
--- src/lib.rt:85:1
 returns-2 : tie.Need-returns-2
 unfolding nextWhole
 returns-2 c = let t : takes (c .before .before .before .args .m) (c .before .before .before .args .b) ≡ true = (sym (c .before .takes .ensures) ∙ c .if2 .taken) in rw (ne-eqb (c .before .before .before .args .b) 46 (c .before .before .if1 .left), t) refl
 
--- src/lib.rt:85:1
 returns-3 : tie.Need-returns-3
 unfolding nextWhole
 returns-3 c = let t : takes (c .before .before .before .args .m) (c .before .before .before .args .b) ≡ false = (sym (c .before .takes .ensures) ∙ c .if2 .left) in rw (ne-eqb (c .before .before .before .args .b) 46 (c .before .before .if1 .left), t) refl

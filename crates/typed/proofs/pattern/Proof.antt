@@ -5,23 +5,18 @@ use borrow.Author.Needs.{needs}
 use Rattle.typed.proofs.pattern.Statement.{statement}
 use Rattle.typed.proofs.pattern.Tie as tie
 
--- src/lib.rt:235:20
 enum-known-s : tie.Need-enum-known-s
 enum-known-s c = search needs
 
--- src/lib.rt:235:36
 of-bits-requires : tie.Need-of-bits-requires
 of-bits-requires c κs = search needs
 
--- src/lib.rt:236:21
 enum-told : tie.Need-enum-told
 enum-told c = search needs
 
--- src/lib.rt:231:1
 returns : tie.Need-returns
 returns c = ap Is (c .of-bits .ensures) ∙ sym (ap patternOf (c .before .before .s .given .1))
 
--- src/lib.rt:231:1
 returns-2 : tie.Need-returns-2
 returns-2 c = search needs
 

@@ -9,44 +9,34 @@ use borrow.Author.Needs.{needs}
 use Rattle.typed.proofs.read_decimal.Statement.{statement}
 use Rattle.typed.proofs.read_decimal.Tie as tie
 
--- src/lib.rt:159:8
 minus-first-requires : tie.Need-minus-first-requires
 minus-first-requires c κs = search needs
 
--- src/lib.rt:160:39
 sub-read-part : tie.Need-sub-read-part
 sub-read-part c = first-long (c .before .before .before .args .text .now) (sym (c .before .minus-first .ensures) ∙ c .if1 .taken)
 
--- src/lib.rt:160:39
 part-read-part-start : tie.Need-part-read-part-start
 part-read-part-start c = first-long (c .before .before .before .args .text .now) (sym (c .before .minus-first .ensures) ∙ c .if1 .taken)
 
--- src/lib.rt:160:39
 part-read-part-end : tie.Need-part-read-part-end
 part-read-part-end c = search needs
 
--- src/lib.rt:160:29
 read-part-requires : tie.Need-read-part-requires
 read-part-requires c κs = search needs
 
--- src/lib.rt:160:9
 finish-requires : tie.Need-finish-requires
 finish-requires c κs = subst Small (sym (c .read-part .ensures)) (small _)
 
--- src/lib.rt:160:9
 returns : tie.Need-returns
 unfolding decimalOf
 returns c = let q : minusFirst (c .before .before .before .before .before .before .args .text .now) ≡ true = sym (c .before .before .before .before .minus-first .ensures) ∙ c .before .before .before .if1 .taken in rw q (c .finish .ensures ∙ ap (finishOf true) (c .before .read-part .ensures ∙ ap partOf (tail-is (c .before .before .before .before .before .before .args .text .now))))
 
--- src/lib.rt:162:19
 read-part-requires-2 : tie.Need-read-part-requires-2
 read-part-requires-2 c κs = search needs
 
--- src/lib.rt:162:5
 finish-requires-2 : tie.Need-finish-requires-2
 finish-requires-2 c κs = subst Small (sym (c .read-part2 .ensures)) (small _)
 
--- src/lib.rt:156:1
 returns-2 : tie.Need-returns-2
 unfolding decimalOf
 returns-2 c = let q : minusFirst (c .before .before .before .before .before .args .text .now) ≡ false = sym (c .before .before .before .minus-first .ensures) ∙ c .before .before .if1 .left in rw q (c .finish2 .ensures ∙ ap (finishOf false) (c .before .read-part2 .ensures))

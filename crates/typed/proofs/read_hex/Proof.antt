@@ -16,31 +16,24 @@ Inv-loop text s₀ i₀ s i = (i ≤ length text) × (s ≡ run stepHex (Value 0
 abbrev μ-loop : tie.MeasureT-loop
 μ-loop text s₀ i₀ s i = length text - i
 
--- src/lib.rt:205:5
 loop-holds : tie.Need-loop-holds Inv-loop μ-loop
 loop-holds c = (omega arith, refl)
 
--- src/lib.rt:206:25
 shared-slice-read-step-hex : tie.Need-shared-slice-read-step-hex Inv-loop μ-loop
 shared-slice-read-step-hex c = omega arith
 
--- src/lib.rt:206:9
 step-hex-requires : tie.Need-step-hex-requires Inv-loop μ-loop
 step-hex-requires c κs = tt
 
--- src/lib.rt:207:9
 add-i : tie.Need-add-i Inv-loop μ-loop
 add-i c = omega arith
 
--- src/lib.rt:205:5
 loop-less : tie.Need-loop-less Inv-loop μ-loop
 loop-less c = omega arith
 
--- src/lib.rt:205:5
 loop-again : tie.Need-loop-again Inv-loop μ-loop
 loop-again c = (omega arith, (c .step-hex .ensures ∙ ap (λ x. stepHex x (getD (c .before .before .before .before .before .args .text .now) (c .before .before .before .loop .i) 0)) (c .before .before .before .loop .inv .1)) ∙ sym (run-more stepHex (Value 0) (c .before .before .before .before .before .args .text .now) (c .before .before .before .loop .i) (omega arith)))
 
--- src/lib.rt:200:1
 returns : tie.Need-returns Inv-loop μ-loop
 unfolding hexOf
 returns c = c .before .loop .inv .1 ∙ ap (run stepHex (Value 0)) (take-all (c .before .loop .i) (c .before .before .before .args .text .now) (omega arith))

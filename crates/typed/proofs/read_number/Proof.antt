@@ -8,40 +8,31 @@ use borrow.Author.Needs.{needs}
 use Rattle.typed.proofs.read_number.Statement.{statement}
 use Rattle.typed.proofs.read_number.Tie as tie
 
--- src/lib.rt:253:8
 is-pattern-requires : tie.Need-is-pattern-requires
 is-pattern-requires c κs = search needs
 
--- src/lib.rt:254:33
 sub-read-hex : tie.Need-sub-read-hex
 sub-read-hex c = long-pattern (c .before .before .before .args .text .now) (sym (c .before .is-pattern .ensures) ∙ c .if1 .taken)
 
--- src/lib.rt:254:33
 part-read-hex-start : tie.Need-part-read-hex-start
 part-read-hex-start c = long-pattern (c .before .before .before .args .text .now) (sym (c .before .is-pattern .ensures) ∙ c .if1 .taken)
 
--- src/lib.rt:254:33
 part-read-hex-end : tie.Need-part-read-hex-end
 part-read-hex-end c = search needs
 
--- src/lib.rt:254:24
 read-hex-requires : tie.Need-read-hex-requires
 read-hex-requires c κs = search needs
 
--- src/lib.rt:254:9
 pattern-requires : tie.Need-pattern-requires
 pattern-requires c κs = search needs
 
--- src/lib.rt:254:9
 returns : tie.Need-returns
 unfolding numberOf
 returns c = let q : isPattern (c .before .before .before .before .before .before .args .text .now) ≡ true = sym (c .before .before .before .before .is-pattern .ensures) ∙ c .before .before .before .if1 .taken in rw q (c .pattern .ensures ∙ ap patternOf (c .before .read-hex .ensures ∙ ap hexOf (tail-is (c .before .before .before .before .before .before .args .text .now))))
 
--- src/lib.rt:256:5
 read-decimal-requires : tie.Need-read-decimal-requires
 read-decimal-requires c κs = search needs
 
--- src/lib.rt:250:1
 returns-2 : tie.Need-returns-2
 unfolding numberOf
 returns-2 c = let q : isPattern (c .before .before .before .before .args .text .now) ≡ false = sym (c .before .before .is-pattern .ensures) ∙ c .before .if1 .left in rw q (c .read-decimal .ensures)

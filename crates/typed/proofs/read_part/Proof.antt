@@ -16,31 +16,24 @@ Inv-loop text s₀ i₀ s i = (i ≤ length text) × (s ≡ run stepPart Start (
 abbrev μ-loop : tie.MeasureT-loop
 μ-loop text s₀ i₀ s i = length text - i
 
--- src/lib.rt:116:5
 loop-holds : tie.Need-loop-holds Inv-loop μ-loop
 loop-holds c = (omega arith, refl)
 
--- src/lib.rt:117:26
 shared-slice-read-step-part : tie.Need-shared-slice-read-step-part Inv-loop μ-loop
 shared-slice-read-step-part c = omega arith
 
--- src/lib.rt:117:9
 step-part-requires : tie.Need-step-part-requires Inv-loop μ-loop
 step-part-requires c κs = tt
 
--- src/lib.rt:118:9
 add-i : tie.Need-add-i Inv-loop μ-loop
 add-i c = omega arith
 
--- src/lib.rt:116:5
 loop-less : tie.Need-loop-less Inv-loop μ-loop
 loop-less c = omega arith
 
--- src/lib.rt:116:5
 loop-again : tie.Need-loop-again Inv-loop μ-loop
 loop-again c = (omega arith, (c .step-part .ensures ∙ ap (λ x. stepPart x (getD (c .before .before .before .before .before .args .text .now) (c .before .before .before .loop .i) 0)) (c .before .before .before .loop .inv .1)) ∙ sym (run-more stepPart Start (c .before .before .before .before .before .args .text .now) (c .before .before .before .loop .i) (omega arith)))
 
--- src/lib.rt:111:1
 returns : tie.Need-returns Inv-loop μ-loop
 unfolding partOf
 returns c = c .before .loop .inv .1 ∙ ap (run stepPart Start) (take-all (c .before .loop .i) (c .before .before .before .args .text .now) (omega arith))

@@ -10,24 +10,19 @@ use borrow.Author.Needs.{needs}
 use Rattle.typed.proofs.takes.Statement.{statement}
 use Rattle.typed.proofs.takes.Tie as tie
 
--- src/lib.rt:66:8
 is-digit-requires : tie.Need-is-digit-requires
 is-digit-requires c κs = search needs
 
--- src/lib.rt:67:42
 sub-may-follow : tie.Need-sub-may-follow
 sub-may-follow c = omega (arith, digit-range (c .before .before .args .b) (sym (c .before .is-digit .ensures) ∙ c .if1 .taken) .0)
 
--- src/lib.rt:67:9
 may-follow-requires : tie.Need-may-follow-requires
 may-follow-requires c κs = search needs
 
--- src/lib.rt:63:1
 returns : tie.Need-returns
 unfolding takes
 returns c = let d : isDigit (c .before .before .before .args .b) ≡ true = (sym (c .before .before .is-digit .ensures) ∙ c .before .if1 .taken) in rw d (c .may-follow .ensures ∙ unseen 999999999999999 (c .before .before .before .args .m) (c .before .before .before .args .b - 48))
 
--- src/lib.rt:63:1
 returns-2 : tie.Need-returns-2
 unfolding takes
 returns-2 c = let d : isDigit (c .before .before .args .b) ≡ false = (sym (c .before .is-digit .ensures) ∙ c .if1 .left) in rw d refl

@@ -13,35 +13,27 @@ Inv-loop looks i₀ i = (i ≤ length looks) × (length (used looks) ≡ i + len
 abbrev μ-loop : tie.MeasureT-loop
 μ-loop looks i₀ i = length looks - i
 
--- src/inner.rt:63:5
 loop-holds : tie.Need-loop-holds Inv-loop μ-loop
 loop-holds c = (omega arith, omega arith)
 
--- src/inner.rt:64:12
 mul-if1 : tie.Need-mul-if1 Inv-loop μ-loop
 mul-if1 c = omega arith
 
--- src/inner.rt:64:12
 shared-slice-read-if1 : tie.Need-shared-slice-read-if1 Inv-loop μ-loop
 shared-slice-read-if1 c = omega arith
 
--- src/inner.rt:65:13
 returns : tie.Need-returns Inv-loop μ-loop
 returns c = omega (arith, c .before .before .before .loop .inv .1, ap length (used-none (c .before .before .before .before .args .looks .now) (c .before .before .before .loop .i) (omega arith) (c .if1 .taken)))
 
--- src/inner.rt:67:9
 add-i : tie.Need-add-i Inv-loop μ-loop
 add-i c = omega arith
 
--- src/inner.rt:63:5
 loop-less : tie.Need-loop-less Inv-loop μ-loop
 loop-less c = omega arith
 
--- src/inner.rt:63:5
 loop-again : tie.Need-loop-again Inv-loop μ-loop
 loop-again c = (omega arith, omega (arith, c .before .before .before .loop .inv .1, ap length (used-more (c .before .before .before .before .args .looks .now) (c .before .before .before .loop .i) (omega arith) (c .if1 .left))))
 
--- src/inner.rt:59:1
 returns-2 : tie.Need-returns-2 Inv-loop μ-loop
 returns-2 c = omega (arith, c .before .loop .inv .1, ap length (used-end (c .before .before .args .looks .now) (c .before .loop .i) (omega arith)))
 

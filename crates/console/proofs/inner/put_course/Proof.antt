@@ -4,91 +4,69 @@ use borrow.Author.Needs.{needs}
 use Rattle.console.proofs.inner.put_course.Statement.{statement}
 use Rattle.console.proofs.inner.put_course.Tie as tie
 
--- src/walks.rt:42:26
 enum-known-answer : tie.Need-enum-known-answer
 enum-known-answer c = search needs
 
--- src/walks.rt:43:37
 slice-aggregate-put-text : tie.Need-slice-aggregate-put-text
 slice-aggregate-put-text c = search needs
 
--- src/walks.rt:43:17
 put-text-requires : tie.Need-put-text-requires
 put-text-requires c κs = search needs
 
--- src/walks.rt:44:43
 cast-put-number : tie.Need-cast-put-number
 cast-put-number c = search needs
 
--- src/walks.rt:44:17
 put-number-requires : tie.Need-put-number-requires
 put-number-requires c κs = search needs
 
--- src/walks.rt:45:13
 put-state-requires : tie.Need-put-state-requires
 put-state-requires c κs = search needs
 
--- src/walks.rt:47:29
 enum-known-answer-2 : tie.Need-enum-known-answer-2
 enum-known-answer-2 c = search needs
 
--- src/walks.rt:48:42
 slice-aggregate-put-text-2 : tie.Need-slice-aggregate-put-text-2
 slice-aggregate-put-text-2 c = search needs
 
--- src/walks.rt:48:17
 put-text-requires-2 : tie.Need-put-text-requires-2
 put-text-requires-2 c κs = search needs
 
--- src/walks.rt:49:43
 cast-put-number-2 : tie.Need-cast-put-number-2
 cast-put-number-2 c = search needs
 
--- src/walks.rt:49:17
 put-number-requires-2 : tie.Need-put-number-requires-2
 put-number-requires-2 c κs = search needs
 
--- src/walks.rt:50:45
 cast-put-number-3 : tie.Need-cast-put-number-3
 cast-put-number-3 c = search needs
 
--- src/walks.rt:50:17
 put-number-requires-3 : tie.Need-put-number-requires-3
 put-number-requires-3 c κs = search needs
 
--- src/walks.rt:51:13
 put-state-requires-2 : tie.Need-put-state-requires-2
 put-state-requires-2 c κs = search needs
 
--- src/walks.rt:53:29
 enum-known-answer-3 : tie.Need-enum-known-answer-3
 enum-known-answer-3 c = search needs
 
--- src/walks.rt:53:41
 put-refusal-requires : tie.Need-put-refusal-requires
 put-refusal-requires c κs = search needs
 
--- src/walks.rt:38:1
 same-length : tie.Need-same-length
 same-length c = search needs
 
--- src/walks.rt:38:1
 returns : tie.Need-returns
 returns c = rw (c .before .before .before .before .before .before .before .before .before .before .before .before .before .before .answer .given .1) (put-then (put-then (c .before .before .before .before .before .before .before .before .before .before .put-text .ensures) (c .before .before .before .before .before .before .put-number .ensures)) (c .before .before .put-state .ensures))
 
--- src/walks.rt:38:1
 same-length-2 : tie.Need-same-length-2
 same-length-2 c = search needs
 
--- src/walks.rt:38:1
 returns-2 : tie.Need-returns-2
 returns-2 c = rw (c .before .before .before .before .before .before .before .before .before .before .before .before .before .before .before .before .before .before .answer2 .given .1) (put-then (put-then (put-then (c .before .before .before .before .before .before .before .before .before .before .before .before .before .before .put-text2 .ensures) (c .before .before .before .before .before .before .before .before .before .before .put-number2 .ensures)) (c .before .before .before .before .before .before .put-number3 .ensures)) (c .before .before .put-state2 .ensures))
 
--- src/walks.rt:38:1
 same-length-3 : tie.Need-same-length-3
 same-length-3 c = search needs
 
--- src/walks.rt:38:1
 returns-3 : tie.Need-returns-3
 returns-3 c = rw (c .before .before .before .before .before .answer3 .given .1, told-refused) (c .before .before .put-refusal .ensures)
 

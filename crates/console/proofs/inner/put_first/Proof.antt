@@ -17,43 +17,33 @@ Inv-loop looks n out₀ at next₀ i₀ out next i = (i ≤ n) × Put (fieldsTex
 abbrev μ-loop : tie.MeasureT-loop
 μ-loop looks n out₀ at next₀ i₀ out next i = n - i
 
--- src/inner.rt:79:5
 loop-holds : tie.Need-loop-holds Inv-loop μ-loop
 loop-holds c = (omega arith, put-none (c .before .before .args .out .now) (c .before .before .args .at) (omega arith))
 
--- src/inner.rt:80:27
 mul-put-number : tie.Need-mul-put-number Inv-loop μ-loop
 mul-put-number c = omega arith
 
--- src/inner.rt:80:27
 shared-slice-read-put-number : tie.Need-shared-slice-read-put-number Inv-loop μ-loop
 shared-slice-read-put-number c = omega arith
 
--- src/inner.rt:80:27
 cast-put-number : tie.Need-cast-put-number Inv-loop μ-loop
 cast-put-number c = omega (arith, c .shared-slice-known2 .given (c .before .before .loop .i))
 
--- src/inner.rt:80:9
 put-number-requires : tie.Need-put-number-requires Inv-loop μ-loop
 put-number-requires c κs = tt
 
--- src/inner.rt:81:9
 add-i : tie.Need-add-i Inv-loop μ-loop
 add-i c = omega arith
 
--- src/inner.rt:79:5
 loop-less : tie.Need-loop-less Inv-loop μ-loop
 loop-less c = omega arith
 
--- src/inner.rt:79:5
 loop-again : tie.Need-loop-again Inv-loop μ-loop
 loop-again c = (omega arith, rw (fields-more (c .before .before .before .before .before .before .before .before .before .args .looks .now) (c .before .before .before .before .before .before .loop .i) (omega arith)) (put-then (c .before .before .before .before .before .before .loop .inv .1) (c .before .before .put-number .ensures)))
 
--- src/inner.rt:73:1
 same-length : tie.Need-same-length Inv-loop μ-loop
 same-length c = c .before .loop .inv .1 .same-length
 
--- src/inner.rt:73:1
 returns : tie.Need-returns Inv-loop μ-loop
 returns c = let e : c .before .loop .i ≡ c .before .before .before .before .args .n = omega arith in rw (← e) (c .before .loop .inv .1)
 

@@ -5,23 +5,18 @@ use borrow.Author.Needs.{needs}
 use Rattle.console.proofs.inner.put_looks.Statement.{statement}
 use Rattle.console.proofs.inner.put_looks.Tie as tie
 
--- src/inner.rt:90:9
 count-looks-requires : tie.Need-count-looks-requires
 count-looks-requires c κs = search needs
 
--- src/inner.rt:91:9
 put-number-requires : tie.Need-put-number-requires
 put-number-requires c κs = search needs
 
--- src/inner.rt:92:5
 put-first-requires : tie.Need-put-first-requires
 put-first-requires c κs = (omega (arith, (c .before .before .before .before .before .count-looks .ensures), used-most (c .before .before .before .before .before .before .before .before .args .looks .now)), omega (arith, c .before .before .before .put-number .ensures .next-is, c .before .before .before .put-number .ensures .same-length))
 
--- src/inner.rt:87:1
 same-length : tie.Need-same-length
 same-length c = search needs
 
--- src/inner.rt:87:1
 returns : tie.Need-returns
 returns c = rw (used-first (c .before .before .before .before .before .before .before .before .before .before .before .args .looks .now)) at (rw (c .before .before .before .before .before .before .before .before .count-looks .ensures) at (put-then (c .before .before .before .before .before .before .put-number .ensures) (c .before .before .put-first .ensures)))
 

@@ -3,59 +3,45 @@ use borrow.Author.Needs.{needs}
 use Rattle.console.proofs.inner.put_mark.Statement.{statement}
 use Rattle.console.proofs.inner.put_mark.Tie as tie
 
--- src/inner.rt:179:46
 enum-told : tie.Need-enum-told
 enum-told c = search needs
 
--- src/inner.rt:179:46
 slice-aggregate-put-text : tie.Need-slice-aggregate-put-text
 slice-aggregate-put-text c = search needs
 
--- src/inner.rt:179:31
 put-text-requires : tie.Need-put-text-requires
 put-text-requires c κs = search needs
 
--- src/inner.rt:180:46
 enum-told-2 : tie.Need-enum-told-2
 enum-told-2 c = search needs
 
--- src/inner.rt:180:46
 slice-aggregate-put-text-2 : tie.Need-slice-aggregate-put-text-2
 slice-aggregate-put-text-2 c = search needs
 
--- src/inner.rt:180:31
 put-text-requires-2 : tie.Need-put-text-requires-2
 put-text-requires-2 c κs = search needs
 
--- src/inner.rt:181:29
 enum-known-answer : tie.Need-enum-known-answer
 enum-known-answer c = search needs
 
--- src/inner.rt:181:41
 put-refusal-requires : tie.Need-put-refusal-requires
 put-refusal-requires c κs = search needs
 
--- src/inner.rt:175:1
 same-length : tie.Need-same-length
 same-length c = search needs
 
--- src/inner.rt:175:1
 returns : tie.Need-returns
 returns c = rw (c .before .before .before .before .before .enum-told .given .1) (c .before .before .put-text .ensures)
 
--- src/inner.rt:175:1
 same-length-2 : tie.Need-same-length-2
 same-length-2 c = search needs
 
--- src/inner.rt:175:1
 returns-2 : tie.Need-returns-2
 returns-2 c = rw (c .before .before .before .before .before .enum-told2 .given .1) (c .before .before .put-text2 .ensures)
 
--- src/inner.rt:175:1
 same-length-3 : tie.Need-same-length-3
 same-length-3 c = search needs
 
--- src/inner.rt:175:1
 returns-3 : tie.Need-returns-3
 returns-3 c = rw (c .before .before .before .before .before .answer .given .1, told-refused) (c .before .before .put-refusal .ensures)
 

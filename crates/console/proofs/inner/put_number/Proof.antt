@@ -3,19 +3,15 @@ use borrow.Author.Needs.{needs}
 use Rattle.console.proofs.inner.put_number.Statement.{statement}
 use Rattle.console.proofs.inner.put_number.Tie as tie
 
--- src/inner.rt:19:9
 put-byte-requires : tie.Need-put-byte-requires
 put-byte-requires c κs = search needs
 
--- src/inner.rt:20:5
 put-decimal-requires : tie.Need-put-decimal-requires
 put-decimal-requires c κs = search needs
 
--- src/inner.rt:16:1
 same-length : tie.Need-same-length
 same-length c = search needs
 
--- src/inner.rt:16:1
 returns : tie.Need-returns
 returns c = (put-then (c .before .before .before .before .before .before .put-byte .ensures) (c .before .before .put-decimal .ensures))
 

@@ -3,39 +3,30 @@ use borrow.Author.Needs.{needs}
 use Rattle.console.proofs.inner.put_products.Statement.{statement}
 use Rattle.console.proofs.inner.put_products.Tie as tie
 
--- src/inner.rt:125:29
 slice-aggregate-put-text : tie.Need-slice-aggregate-put-text
 slice-aggregate-put-text c = search needs
 
--- src/inner.rt:125:9
 put-text-requires : tie.Need-put-text-requires
 put-text-requires c κs = search needs
 
--- src/inner.rt:126:9
 put-number-requires : tie.Need-put-number-requires
 put-number-requires c κs = search needs
 
--- src/inner.rt:127:9
 put-number-requires-2 : tie.Need-put-number-requires-2
 put-number-requires-2 c κs = search needs
 
--- src/inner.rt:128:9
 put-number-requires-3 : tie.Need-put-number-requires-3
 put-number-requires-3 c κs = search needs
 
--- src/inner.rt:129:9
 put-number-requires-4 : tie.Need-put-number-requires-4
 put-number-requires-4 c κs = search needs
 
--- src/inner.rt:130:5
 put-number-requires-5 : tie.Need-put-number-requires-5
 put-number-requires-5 c κs = search needs
 
--- src/inner.rt:122:1
 same-length : tie.Need-same-length
 same-length c = search needs
 
--- src/inner.rt:122:1
 returns : tie.Need-returns
 returns c = (put-then (put-then (put-then (put-then (put-then (c .before .before .before .before .before .before .before .before .before .before .before .before .before .before .before .before .before .before .before .before .before .before .put-text .ensures) (c .before .before .before .before .before .before .before .before .before .before .before .before .before .before .before .before .before .before .put-number .ensures)) (c .before .before .before .before .before .before .before .before .before .before .before .before .before .before .put-number2 .ensures)) (c .before .before .before .before .before .before .before .before .before .before .put-number3 .ensures)) (c .before .before .before .before .before .before .put-number4 .ensures)) (c .before .before .put-number5 .ensures))
 

@@ -4,43 +4,33 @@ use borrow.Author.Needs.{needs}
 use Rattle.console.proofs.inner.put_reading.Statement.{statement}
 use Rattle.console.proofs.inner.put_reading.Tie as tie
 
--- src/inner.rt:50:21
 enum-known-reading : tie.Need-enum-known-reading
 enum-known-reading c = search needs
 
--- src/inner.rt:51:39
 slice-aggregate-put-text : tie.Need-slice-aggregate-put-text
 slice-aggregate-put-text c = search needs
 
--- src/inner.rt:51:17
 put-text-requires : tie.Need-put-text-requires
 put-text-requires c κs = search needs
 
--- src/inner.rt:52:13
 put-number-requires : tie.Need-put-number-requires
 put-number-requires c κs = search needs
 
--- src/inner.rt:54:26
 enum-known-reading-2 : tie.Need-enum-known-reading-2
 enum-known-reading-2 c = search needs
 
--- src/inner.rt:54:38
 put-refusal-requires : tie.Need-put-refusal-requires
 put-refusal-requires c κs = search needs
 
--- src/inner.rt:46:1
 same-length : tie.Need-same-length
 same-length c = search needs
 
--- src/inner.rt:46:1
 returns : tie.Need-returns
 returns c = rw (c .before .before .before .before .before .before .before .before .before .before .reading .given .1) (put-then (c .before .before .before .before .before .before .put-text .ensures) (c .before .before .put-number .ensures))
 
--- src/inner.rt:46:1
 same-length-2 : tie.Need-same-length-2
 same-length-2 c = search needs
 
--- src/inner.rt:46:1
 returns-2 : tie.Need-returns-2
 returns-2 c = rw (c .before .before .before .before .before .reading2 .given .1, told-refused) (c .before .before .put-refusal .ensures)
 

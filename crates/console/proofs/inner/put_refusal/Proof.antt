@@ -3,59 +3,45 @@ use borrow.Author.Needs.{needs}
 use Rattle.console.proofs.inner.put_refusal.Statement.{statement}
 use Rattle.console.proofs.inner.put_refusal.Tie as tie
 
--- src/inner.rt:35:31
 slice-aggregate-put-text : tie.Need-slice-aggregate-put-text
 slice-aggregate-put-text c = search needs
 
--- src/inner.rt:35:9
 put-text-requires : tie.Need-put-text-requires
 put-text-requires c κs = search needs
 
--- src/inner.rt:37:24
 enum-known-refusal : tie.Need-enum-known-refusal
 enum-known-refusal c = search needs
 
--- src/inner.rt:37:46
 cast-put-number : tie.Need-cast-put-number
 cast-put-number c = search needs
 
--- src/inner.rt:37:35
 put-number-requires : tie.Need-put-number-requires
 put-number-requires c κs = search needs
 
--- src/inner.rt:38:24
 enum-known-refusal-2 : tie.Need-enum-known-refusal-2
 enum-known-refusal-2 c = search needs
 
--- src/inner.rt:39:36
 cast-put-number-2 : tie.Need-cast-put-number-2
 cast-put-number-2 c = search needs
 
--- src/inner.rt:39:17
 put-number-requires-2 : tie.Need-put-number-requires-2
 put-number-requires-2 c κs = search needs
 
--- src/inner.rt:40:24
 cast-put-number-3 : tie.Need-cast-put-number-3
 cast-put-number-3 c = search needs
 
--- src/inner.rt:40:13
 put-number-requires-3 : tie.Need-put-number-requires-3
 put-number-requires-3 c κs = search needs
 
--- src/inner.rt:32:1
 same-length : tie.Need-same-length
 same-length c = search needs
 
--- src/inner.rt:32:1
 returns : tie.Need-returns
 returns c = rw (c .before .before .before .before .before .refusal .given .1) (put-then (c .before .before .before .before .before .before .before .before .before .put-text .ensures) (c .before .before .put-number .ensures))
 
--- src/inner.rt:32:1
 same-length-2 : tie.Need-same-length-2
 same-length-2 c = search needs
 
--- src/inner.rt:32:1
 returns-2 : tie.Need-returns-2
 returns-2 c = rw (c .before .before .before .before .before .before .before .before .before .refusal2 .given .1) (put-then (put-then (c .before .before .before .before .before .before .before .before .before .before .before .before .before .put-text .ensures) (c .before .before .before .before .before .before .put-number2 .ensures)) (c .before .before .put-number3 .ensures))
 

@@ -7,45 +7,35 @@ use borrow.Author.Needs.{needs}
 use Rattle.console.proofs.inner.put_specific.Statement.{statement}
 use Rattle.console.proofs.inner.put_specific.Tie as tie
 
--- src/inner.rt:151:28
 enum-known-answer : tie.Need-enum-known-answer
 enum-known-answer c = search needs
 
--- src/inner.rt:152:39
 slice-aggregate-put-text : tie.Need-slice-aggregate-put-text
 slice-aggregate-put-text c = search needs
 
--- src/inner.rt:152:17
 put-text-requires : tie.Need-put-text-requires
 put-text-requires c κs = search needs
 
--- src/inner.rt:153:13
 put-signed-requires : tie.Need-put-signed-requires
 put-signed-requires c κs = search needs
 
--- src/inner.rt:155:33
 enum-known-answer-2 : tie.Need-enum-known-answer-2
 enum-known-answer-2 c = search needs
 
--- src/inner.rt:155:45
 put-refusal-requires : tie.Need-put-refusal-requires
 put-refusal-requires c κs = search needs
 
--- src/inner.rt:147:1
 same-length : tie.Need-same-length
 same-length c = search needs
 
--- src/inner.rt:147:1
 returns : tie.Need-returns
 returns c =
     let f0 : SFits w64 (c .before .before .before .before .before .before .before .before .before .before .answer .given .0 .0) = search needs in
     rw (c .before .before .before .before .before .before .before .before .before .before .answer .given .1) (rw (back f0) at (put-then (c .before .before .before .before .before .before .put-text .ensures) (c .before .before .put-signed .ensures)))
 
--- src/inner.rt:147:1
 same-length-2 : tie.Need-same-length-2
 same-length-2 c = search needs
 
--- src/inner.rt:147:1
 returns-2 : tie.Need-returns-2
 returns-2 c = rw (c .before .before .before .before .before .answer2 .given .1, told-refused) (c .before .before .put-refusal .ensures)
 

@@ -6,27 +6,21 @@ use borrow.Author.Needs.{needs}
 use Rattle.console.proofs.inner.put_state.Statement.{statement}
 use Rattle.console.proofs.inner.put_state.Tie as tie
 
--- src/walks.rt:31:9
 put-signed-requires : tie.Need-put-signed-requires
 put-signed-requires c κs = search needs
 
--- src/walks.rt:32:9
 put-signed-requires-2 : tie.Need-put-signed-requires-2
 put-signed-requires-2 c κs = search needs
 
--- src/walks.rt:33:9
 put-signed-requires-3 : tie.Need-put-signed-requires-3
 put-signed-requires-3 c κs = search needs
 
--- src/walks.rt:34:5
 put-signed-requires-4 : tie.Need-put-signed-requires-4
 put-signed-requires-4 c κs = search needs
 
--- src/walks.rt:28:1
 same-length : tie.Need-same-length
 same-length c = search needs
 
--- src/walks.rt:28:1
 returns : tie.Need-returns
 returns c =
     let f0 : SFits w64 ((c .before .before .before .before .before .before .before .before .before .before .before .before .before .before .before .before .before .before .before .before .before .args .charge) .air) = search needs in

@@ -7,54 +7,42 @@ use borrow.Author.Needs.{needs}
 use Rattle.console.proofs.inner.put_temperature.Statement.{statement}
 use Rattle.console.proofs.inner.put_temperature.Tie as tie
 
--- src/inner.rt:164:31
 enum-known-answer : tie.Need-enum-known-answer
 enum-known-answer c = search needs
 
--- src/inner.rt:165:39
 slice-aggregate-put-text : tie.Need-slice-aggregate-put-text
 slice-aggregate-put-text c = search needs
 
--- src/inner.rt:165:17
 put-text-requires : tie.Need-put-text-requires
 put-text-requires c κs = search needs
 
--- src/inner.rt:166:17
 put-signed-requires : tie.Need-put-signed-requires
 put-signed-requires c κs = search needs
 
--- src/inner.rt:167:17
 put-signed-requires-2 : tie.Need-put-signed-requires-2
 put-signed-requires-2 c κs = search needs
 
--- src/inner.rt:168:13
 put-looks-requires : tie.Need-put-looks-requires
 put-looks-requires c κs = search needs
 
--- src/inner.rt:170:36
 enum-known-answer-2 : tie.Need-enum-known-answer-2
 enum-known-answer-2 c = search needs
 
--- src/inner.rt:170:48
 put-refusal-requires : tie.Need-put-refusal-requires
 put-refusal-requires c κs = search needs
 
--- src/inner.rt:160:1
 same-length : tie.Need-same-length
 same-length c = search needs
 
--- src/inner.rt:160:1
 returns : tie.Need-returns
 returns c =
     let f0 : SFits w64 (c .before .before .before .before .before .before .before .before .before .before .before .before .before .before .before .before .before .before .before .before .answer .given .0 .0 .0) = search needs in
     let f1 : SFits w64 (c .before .before .before .before .before .before .before .before .before .before .before .before .before .before .before .before .before .before .before .before .answer .given .0 .1 .0 .0) = search needs in
     rw (c .before .before .before .before .before .before .before .before .before .before .before .before .before .before .before .before .before .before .before .before .answer .given .1) (rw (back f0, back f1) at (put-then (put-then (put-then (c .before .before .before .before .before .before .before .before .before .before .before .before .before .before .before .before .put-text .ensures) (c .before .before .before .before .before .before .before .before .before .before .before .put-signed .ensures)) (c .before .before .before .before .before .before .put-signed2 .ensures)) (c .before .before .put-looks .ensures)))
 
--- src/inner.rt:160:1
 same-length-2 : tie.Need-same-length-2
 same-length-2 c = search needs
 
--- src/inner.rt:160:1
 returns-2 : tie.Need-returns-2
 returns-2 c = rw (c .before .before .before .before .before .answer2 .given .1, told-refused) (c .before .before .put-refusal .ensures)
 

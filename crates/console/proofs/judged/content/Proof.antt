@@ -12,33 +12,26 @@ use borrow.Author.Needs.{needs}
 use Rattle.console.proofs.judged.content.Statement.{statement}
 use Rattle.console.proofs.judged.content.Tie as tie
 
--- src/judged.rt:35:11
 admit-at-requires : tie.Need-admit-at-requires
 admit-at-requires c κs = search needs
 
--- src/judged.rt:36:27
 enum-known-gas : tie.Need-enum-known-gas
 enum-known-gas c = search needs
 
--- src/judged.rt:37:23
 heat-column-requires : tie.Need-heat-column-requires
 heat-column-requires c κs = search needs
 
--- src/judged.rt:38:28
 content-at-requires : tie.Need-content-at-requires
 content-at-requires c κs =
     let h = readable-of document01 (c .before .before .before .before .before .before .before .args .charge) (c .before .before .before .before .before .before .before .args .t .0) (c .before .before .before .before .before .before .before .args .sheet .now) (past-heat (c .before .before .before .before .before .before .before .pre) document01 (c .before .before .before .before .before .before .before .args .charge) (c .before .before .before .before .before .before .before .args .t .0) (ap paperGas (sym (c .before .before .before .gas .given .1)) ∙ c .before .before .before .before .before .admit-at .ensures)) in
     (h .burns, h .accepted, c .before .heat-column .ensures, h .covered)
 
--- src/judged.rt:40:27
 enum-known-refusal : tie.Need-enum-known-refusal
 enum-known-refusal c = search needs
 
--- src/judged.rt:31:1
 returns : tie.Need-returns
 returns c = told-through (heatOrder document01 (c .before .before .before .before .before .before .before .before .args .charge) (c .before .before .before .before .before .before .before .before .args .t .0) (c .before .before .before .before .before .before .before .before .args .sheet .now)) (gasOf (c .before .before .before .before .before .before .before .before .args .charge)) (λ (g : Gas). contentAbove15 document01 (c .before .before .before .before .before .before .before .before .args .sheet .now) g (up (c .before .before .before .before .before .before .before .before .args .t .0))) (past-heat (c .before .before .before .before .before .before .before .before .pre) document01 (c .before .before .before .before .before .before .before .before .args .charge) (c .before .before .before .before .before .before .before .before .args .t .0) (ap paperGas (sym (c .before .before .before .before .gas .given .1)) ∙ c .before .before .before .before .before .before .admit-at .ensures)) (c .content-at .ensures)
 
--- src/judged.rt:31:1
 returns-2 : tie.Need-returns-2
 returns-2 c = stopped (heatOrder document01 (c .before .before .before .before .before .args .charge) (c .before .before .before .before .before .args .t .0) (c .before .before .before .before .before .args .sheet .now)) [] _ _ (c .before .refusal .given .0 .0) (past-heat (c .before .before .before .before .before .pre) document01 (c .before .before .before .before .before .args .charge) (c .before .before .before .before .before .args .t .0) (ap paperGas (sym (c .before .refusal .given .1)) ∙ c .before .before .before .admit-at .ensures))
 

@@ -15,35 +15,28 @@ use borrow.Author.Needs.{needs}
 use Rattle.console.proofs.judged.specific_content.Statement.{statement}
 use Rattle.console.proofs.judged.specific_content.Tie as tie
 
--- src/judged.rt:49:11
 admit-at-requires : tie.Need-admit-at-requires
 admit-at-requires c κs = search needs
 
--- src/judged.rt:50:27
 enum-known-gas : tie.Need-enum-known-gas
 enum-known-gas c = search needs
 
--- src/judged.rt:51:23
 heat-column-requires : tie.Need-heat-column-requires
 heat-column-requires c κs = search needs
 
--- src/judged.rt:52:32
 specific-at-requires : tie.Need-specific-at-requires
 specific-at-requires c κs =
     let h = readable-of document01 (c .before .before .before .before .before .before .before .args .charge) (c .before .before .before .before .before .before .before .args .t .0) (c .before .before .before .before .before .before .before .args .sheet .now) (past-heat (c .before .before .before .before .before .before .before .pre) document01 (c .before .before .before .before .before .before .before .args .charge) (c .before .before .before .before .before .before .before .args .t .0) (ap paperGas (sym (c .before .before .before .gas .given .1)) ∙ c .before .before .before .before .before .admit-at .ensures)) in
     (h .burns, h .accepted, c .before .heat-column .ensures, h .covered)
 
--- src/judged.rt:54:27
 enum-known-refusal : tie.Need-enum-known-refusal
 enum-known-refusal c = search needs
 
--- src/judged.rt:45:1
 returns : tie.Need-returns
 returns c =
     let f : SFits w64 (c .specific-at .result) = search needs in
     told-through (heatOrder document01 (c .before .before .before .before .before .before .before .before .args .charge) (c .before .before .before .before .before .before .before .before .args .t .0) (c .before .before .before .before .before .before .before .before .args .sheet .now)) (gasOf (c .before .before .before .before .before .before .before .before .args .charge)) (λ (g : Gas). specificContent document01 (c .before .before .before .before .before .before .before .before .args .sheet .now) g (up (c .before .before .before .before .before .before .before .before .args .t .0))) (past-heat (c .before .before .before .before .before .before .before .before .pre) document01 (c .before .before .before .before .before .before .before .before .args .charge) (c .before .before .before .before .before .before .before .before .args .t .0) (ap paperGas (sym (c .before .before .before .before .gas .given .1)) ∙ c .before .before .before .before .before .before .admit-at .ensures)) (back f ∙ c .specific-at .ensures)
 
--- src/judged.rt:45:1
 returns-2 : tie.Need-returns-2
 returns-2 c = stopped (heatOrder document01 (c .before .before .before .before .before .args .charge) (c .before .before .before .before .before .args .t .0) (c .before .before .before .before .before .args .sheet .now)) [] _ _ (c .before .refusal .given .0 .0) (past-heat (c .before .before .before .before .before .pre) document01 (c .before .before .before .before .before .args .charge) (c .before .before .before .before .before .args .t .0) (ap paperGas (sym (c .before .refusal .given .1)) ∙ c .before .before .before .admit-at .ensures))
 

@@ -10,39 +10,31 @@ use borrow.Author.Needs.{needs}
 use Rattle.console.proofs.judged.temperature.Statement.{statement}
 use Rattle.console.proofs.judged.temperature.Tie as tie
 
--- src/judged.rt:63:11
 admit-requires : tie.Need-admit-requires
 admit-requires c κs = search needs
 
--- src/judged.rt:64:27
 enum-known-gas : tie.Need-enum-known-gas
 enum-known-gas c = search needs
 
--- src/judged.rt:65:23
 heat-column-requires : tie.Need-heat-column-requires
 heat-column-requires c κs = search needs
 
--- src/judged.rt:66:13
 find-requires : tie.Need-find-requires
 find-requires c κs =
     let h = searchable-of document01 (c .before .before .before .before .before .before .before .before .before .args .charge) (c .before .before .before .before .before .before .before .before .before .args .sheet .now) (length (c .before .before .before .before .before .before .before .before .before .args .looks .now)) (past-search (c .before .before .before .before .before .before .before .before .before .pre .0) document01 (c .before .before .before .before .before .before .before .before .before .args .charge) (length (c .before .before .before .before .before .before .before .before .before .args .looks .now)) (c .before .before .before .before .before .before .before .before .before .pre .1) (ap paperGas (sym (c .before .before .before .before .gas .given .1)) ∙ c .before .before .before .before .before .before .admit .ensures)) in
     (h .burns, h .accepted, c .before .before .heat-column .ensures, h .room)
 
--- src/judged.rt:68:27
 enum-known-refusal : tie.Need-enum-known-refusal
 enum-known-refusal c = search needs
 
--- src/judged.rt:59:1
 same-length : tie.Need-same-length
 same-length c = search needs
 
--- src/judged.rt:59:1
 returns : tie.Need-returns
 returns c =
     let e = past-search (c .before .before .before .before .before .before .before .before .before .before .before .before .pre .0) document01 (c .before .before .before .before .before .before .before .before .before .before .before .before .args .charge) (length (c .before .before .before .before .before .before .before .before .before .before .before .before .args .looks .now)) (c .before .before .before .before .before .before .before .before .before .before .before .before .pre .1) (ap paperGas (sym (c .before .before .before .before .before .before .before .gas .given .1)) ∙ c .before .before .before .before .before .before .before .before .before .admit .ensures) in
     passed-told (gasHeat document01 (c .before .before .before .before .before .before .before .before .before .before .before .before .args .sheet .now) (gasOf (c .before .before .before .before .before .before .before .before .before .before .before .before .args .charge))) (c .before .before .before .before .before .before .before .before .before .before .before .before .args .target .0) (c .before .before .before .before .before .before .before .before .before .before .before .before .args .looks .now) (searchOrder document01 (c .before .before .before .before .before .before .before .before .before .before .before .before .args .charge) (c .before .before .before .before .before .before .before .before .before .before .before .before .args .sheet .now) (length (c .before .before .before .before .before .before .before .before .before .before .before .before .args .looks .now))) _ e (rw (← given (searchOrder document01 (c .before .before .before .before .before .before .before .before .before .before .before .before .args .charge) (c .before .before .before .before .before .before .before .before .before .before .before .before .args .sheet .now) (length (c .before .before .before .before .before .before .before .before .before .before .before .before .args .looks .now))) _ e) at (c .before .before .find .ensures))
 
--- src/judged.rt:59:1
 returns-2 : tie.Need-returns-2
 returns-2 c = stopped-told (gasHeat document01 (c .before .before .before .before .before .before .args .sheet .now) (gasOf (c .before .before .before .before .before .before .args .charge))) (c .before .before .before .before .before .before .args .target .0) (c .before .before .before .before .before .before .args .looks .now) (searchOrder document01 (c .before .before .before .before .before .before .args .charge) (c .before .before .before .before .before .before .args .sheet .now) (length (c .before .before .before .before .before .before .args .looks .now))) _ (c .before .refusal .given .0 .0) (past-search (c .before .before .before .before .before .before .pre .0) document01 (c .before .before .before .before .before .before .args .charge) (length (c .before .before .before .before .before .before .args .looks .now)) (c .before .before .before .before .before .before .pre .1) (ap paperGas (sym (c .before .refusal .given .1)) ∙ c .before .before .before .admit .ensures))
 

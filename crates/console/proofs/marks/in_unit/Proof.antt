@@ -2,11 +2,9 @@ use mathlib.Core.Path.{refl}
 use Rattle.console.proofs.marks.in_unit.Statement.{statement}
 use Rattle.console.proofs.marks.in_unit.Tie as tie
 
--- src/marks.rt:36:1
 returns : tie.Need-returns
 returns c = rw (c .if1 .taken) refl
 
--- src/marks.rt:36:1
 returns-2 : tie.Need-returns-2
 returns-2 c = rw (c .if1 .left) refl
 

@@ -5,46 +5,36 @@ use borrow.Author.Needs.{needs}
 use Rattle.console.proofs.marks.kind_of.Statement.{statement}
 use Rattle.console.proofs.marks.kind_of.Tie as tie
 
--- src/marks.rt:23:26
 slice-aggregate-same : tie.Need-slice-aggregate-same
 slice-aggregate-same c = search needs
 
--- src/marks.rt:23:8
 same-requires : tie.Need-same-requires
 same-requires c κs = search needs
 
--- src/marks.rt:24:9
 returns : tie.Need-returns
 unfolding kindOf
 returns c = rw (same-is (c .before .before .before .before .args .word .now) kelvinsWord (c .before .same .ensures) (c .if1 .taken)) refl
 
--- src/marks.rt:26:26
 slice-aggregate-same-2 : tie.Need-slice-aggregate-same-2
 slice-aggregate-same-2 c = search needs
 
--- src/marks.rt:26:8
 same-requires-2 : tie.Need-same-requires-2
 same-requires-2 c κs = search needs
 
--- src/marks.rt:27:9
 returns-2 : tie.Need-returns-2
 unfolding kindOf
 returns-2 c = rw (same-is (c .before .before .before .before .before .before .before .args .word .now) kelvinsWord (c .before .before .before .before .same .ensures) (c .before .before .before .if1 .left), same-is (c .before .before .before .before .before .before .before .args .word .now) contentWord (c .before .same2 .ensures) (c .if2 .taken)) refl
 
--- src/marks.rt:29:26
 slice-aggregate-same-3 : tie.Need-slice-aggregate-same-3
 slice-aggregate-same-3 c = search needs
 
--- src/marks.rt:29:8
 same-requires-3 : tie.Need-same-requires-3
 same-requires-3 c κs = search needs
 
--- src/marks.rt:30:9
 returns-3 : tie.Need-returns-3
 unfolding kindOf
 returns-3 c = rw (same-is (c .before .before .before .before .before .before .before .before .before .before .args .word .now) kelvinsWord (c .before .before .before .before .before .before .before .same .ensures) (c .before .before .before .before .before .before .if1 .left), same-is (c .before .before .before .before .before .before .before .before .before .before .args .word .now) contentWord (c .before .before .before .before .same2 .ensures) (c .before .before .before .if2 .left), same-is (c .before .before .before .before .before .before .before .before .before .before .args .word .now) blankWord (c .before .same3 .ensures) (c .if3 .taken)) refl
 
--- src/marks.rt:20:1
 returns-4 : tie.Need-returns-4
 unfolding kindOf
 returns-4 c = rw (same-is (c .before .before .before .before .before .before .before .before .before .before .args .word .now) kelvinsWord (c .before .before .before .before .before .before .before .same .ensures) (c .before .before .before .before .before .before .if1 .left), same-is (c .before .before .before .before .before .before .before .before .before .before .args .word .now) contentWord (c .before .before .before .before .same2 .ensures) (c .before .before .before .if2 .left), same-is (c .before .before .before .before .before .before .before .before .before .before .args .word .now) blankWord (c .before .same3 .ensures) (c .if3 .left)) refl

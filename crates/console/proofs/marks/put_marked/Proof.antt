@@ -5,46 +5,36 @@ use borrow.Author.Needs.{needs}
 use Rattle.console.proofs.marks.put_marked.Statement.{statement}
 use Rattle.console.proofs.marks.put_marked.Tie as tie
 
--- src/marks.rt:50:11
 read-two-requires : tie.Need-read-two-requires
 read-two-requires c κs = search needs
 
--- src/marks.rt:51:26
 enum-known-key : tie.Need-enum-known-key
 enum-known-key c = search needs
 
--- src/marks.rt:51:58
 mark-requires : tie.Need-mark-requires
 mark-requires c κs = search needs
 
--- src/marks.rt:51:42
 put-mark-requires : tie.Need-put-mark-requires
 put-mark-requires c κs = search needs
 
--- src/marks.rt:52:49
 enum-told : tie.Need-enum-told
 enum-told c = search needs
 
--- src/marks.rt:52:29
 put-misfit-requires : tie.Need-put-misfit-requires
 put-misfit-requires c κs = search needs
 
--- src/marks.rt:47:1
 same-length : tie.Need-same-length
 same-length c = search needs
 
--- src/marks.rt:47:1
 returns : tie.Need-returns
 returns c =
     let f0 : SFits w64 (c .before .before .before .before .before .before .key .given .0 .0) = search needs in
     let f1 : SFits w64 (c .before .before .before .before .before .before .key .given .0 .1 .0) = search needs in
     rw (← c .before .before .before .before .before .before .before .before .read-two .ensures, c .before .before .before .before .before .before .key .given .1) (rw (back f0, back f1) at (rw (c .before .before .before .before .mark .ensures) at (c .before .before .put-mark .ensures)))
 
--- src/marks.rt:47:1
 same-length-2 : tie.Need-same-length-2
 same-length-2 c = search needs
 
--- src/marks.rt:47:1
 returns-2 : tie.Need-returns-2
 returns-2 c = rw (← c .before .before .before .before .before .before .read-two .ensures, c .before .before .before .before .enum-told .given .1) (c .before .before .put-misfit .ensures)
 

@@ -4,51 +4,39 @@ use borrow.Author.Needs.{needs}
 use Rattle.console.proofs.marks.put_typed.Statement.{statement}
 use Rattle.console.proofs.marks.put_typed.Tie as tie
 
--- src/marks.rt:71:9
 put-misfit-requires : tie.Need-put-misfit-requires
 put-misfit-requires c κs = search needs
 
--- src/marks.rt:71:9
 same-length : tie.Need-same-length
 same-length c = search needs
 
--- src/marks.rt:71:9
 returns : tie.Need-returns
 returns c = rw (fields-none (c .before .before .before .before .before .before .before .args .line .now) (c .before .before .before .before .before .before .before .args .from) (c .before .before .before .before .if1 .taken)) (c .before .before .put-misfit .ensures)
 
--- src/marks.rt:73:9
 field-end-requires : tie.Need-field-end-requires
 field-end-requires c κs = search needs
 
--- src/marks.rt:74:37
 sub-read-number : tie.Need-sub-read-number
 sub-read-number c = search needs
 
--- src/marks.rt:74:37
 part-read-number-start : tie.Need-part-read-number-start
 part-read-number-start c = search needs
 
--- src/marks.rt:74:37
 part-read-number-end : tie.Need-part-read-number-end
 part-read-number-end c = omega (arith, c .field-end .ensures, span-from (c .before .before .before .before .args .line .now) (c .before .before .before .before .args .from) (omega arith))
 
--- src/marks.rt:74:9
 read-number-requires : tie.Need-read-number-requires
 read-number-requires c κs = search needs
 
--- src/marks.rt:75:39
 add-put-number : tie.Need-add-put-number
 add-put-number c = omega (arith, c .before .before .field-end .ensures, span-from (c .before .before .before .before .before .before .args .line .now) (c .before .before .before .before .before .before .args .from) (omega arith))
 
--- src/marks.rt:75:5
 put-number-requires : tie.Need-put-number-requires
 put-number-requires c κs = search needs
 
--- src/marks.rt:67:1
 same-length-2 : tie.Need-same-length-2
 same-length-2 c = search needs
 
--- src/marks.rt:67:1
 returns-2 : tie.Need-returns-2
 returns-2 c = rw (fields-at (c .before .before .before .before .before .before .before .before .before .before .args .line .now) (c .before .before .before .before .before .before .before .before .before .before .args .from) (c .before .before .before .before .before .before .field-end .result) (c .before .before .before .before .before .before .before .if1 .left) (c .before .before .before .before .before .before .field-end .ensures), ← c .before .before .before .before .read-number .ensures) (c .before .before .put-number .ensures)
 

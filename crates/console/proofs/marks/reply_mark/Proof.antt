@@ -4,51 +4,39 @@ use borrow.Author.Needs.{needs}
 use Rattle.console.proofs.marks.reply_mark.Statement.{statement}
 use Rattle.console.proofs.marks.reply_mark.Tie as tie
 
--- src/marks.rt:95:9
 put-misfit-requires : tie.Need-put-misfit-requires
 put-misfit-requires c κs = search needs
 
--- src/marks.rt:95:9
 same-length : tie.Need-same-length
 same-length c = search needs
 
--- src/marks.rt:95:9
 returns : tie.Need-returns
 returns c = rw (fields-none (c .before .before .before .before .before .before .before .args .line .now) (c .before .before .before .before .before .before .before .args .from) (c .before .before .before .before .if1 .taken)) (c .before .before .put-misfit .ensures)
 
--- src/marks.rt:97:9
 field-end-requires : tie.Need-field-end-requires
 field-end-requires c κs = search needs
 
--- src/marks.rt:98:24
 sub-kind-of : tie.Need-sub-kind-of
 sub-kind-of c = search needs
 
--- src/marks.rt:98:24
 part-kind-of-start : tie.Need-part-kind-of-start
 part-kind-of-start c = search needs
 
--- src/marks.rt:98:24
 part-kind-of-end : tie.Need-part-kind-of-end
 part-kind-of-end c = omega (arith, c .field-end .ensures, span-from (c .before .before .before .before .args .line .now) (c .before .before .before .before .args .from) (omega arith))
 
--- src/marks.rt:98:9
 kind-of-requires : tie.Need-kind-of-requires
 kind-of-requires c κs = search needs
 
--- src/marks.rt:99:26
 add-put-kind : tie.Need-add-put-kind
 add-put-kind c = omega (arith, c .before .before .field-end .ensures, span-from (c .before .before .before .before .before .before .args .line .now) (c .before .before .before .before .before .before .args .from) (omega arith))
 
--- src/marks.rt:99:5
 put-kind-requires : tie.Need-put-kind-requires
 put-kind-requires c κs = search needs
 
--- src/marks.rt:91:1
 same-length-2 : tie.Need-same-length-2
 same-length-2 c = search needs
 
--- src/marks.rt:91:1
 returns-2 : tie.Need-returns-2
 returns-2 c = rw (fields-at (c .before .before .before .before .before .before .before .before .before .before .args .line .now) (c .before .before .before .before .before .before .before .before .before .before .args .from) (c .before .before .before .before .before .before .field-end .result) (c .before .before .before .before .before .before .before .if1 .left) (c .before .before .before .before .before .before .field-end .ensures), ← c .before .before .before .before .kind-of .ensures) (c .before .before .put-kind .ensures)
 

@@ -4,27 +4,21 @@ use borrow.Author.Needs.{needs}
 use Rattle.console.proofs.replies.ask_psi.Statement.{statement}
 use Rattle.console.proofs.replies.ask_psi.Tie as tie
 
--- src/replies.rt:72:40
 slice-aggregate-psi-inverse : tie.Need-slice-aggregate-psi-inverse
 slice-aggregate-psi-inverse c = search needs
 
--- src/replies.rt:72:9
 psi-inverse-requires : tie.Need-psi-inverse-requires
 psi-inverse-requires c κs = search needs
 
--- src/replies.rt:73:28
 slice-aggregate-put-psi : tie.Need-slice-aggregate-put-psi
 slice-aggregate-put-psi c = search needs
 
--- src/replies.rt:73:5
 put-psi-requires : tie.Need-put-psi-requires
 put-psi-requires c κs = search needs
 
--- src/replies.rt:68:1
 same-length : tie.Need-same-length
 same-length c = search needs
 
--- src/replies.rt:68:1
 returns : tie.Need-returns
 returns c = rw (back (c .before .before .before .before .before .before .before .before .before .fits .psi)) at (rw (psi-shown (c .before .before .before .before .before .before .psi-inverse .ensures)) at (c .before .before .put-psi .ensures))
 

@@ -22,59 +22,45 @@ use borrow.Author.Needs.{needs}
 use Rattle.console.proofs.replies.ask_station.Statement.{statement}
 use Rattle.console.proofs.replies.ask_station.Tie as tie
 
--- src/replies.rt:183:11
 admit-at-requires : tie.Need-admit-at-requires
 admit-at-requires c κs = search needs
 
--- src/replies.rt:184:27
 enum-known-gas : tie.Need-enum-known-gas
 enum-known-gas c = search needs
 
--- src/replies.rt:185:23
 heat-column-requires : tie.Need-heat-column-requires
 heat-column-requires c κs = search needs
 
--- src/replies.rt:186:17
 specific-at-requires : tie.Need-specific-at-requires
 specific-at-requires c κs = let h = readable-of document01 (c .before .before .before .before .before .before .before .before .args .charge) (c .before .before .before .before .before .before .before .before .args .mk) (c .before .before .before .before .before .before .before .before .args .sheet .now) (past-heat (c .before .before .before .before .before .before .before .before .pre) document01 (c .before .before .before .before .before .before .before .before .args .charge) (c .before .before .before .before .before .before .before .before .args .mk) (ap paperGas (sym (c .before .before .before .gas .given .1)) ∙ (rw (back (c .before .before .before .before .before .before .before .before .fits .mk)) at (c .before .before .before .before .before .admit-at .ensures)))) in (h .burns, h .accepted, (c .before .heat-column .ensures), rw (back (c .before .before .before .before .before .before .before .before .fits .mk)) (h .covered))
 
--- src/replies.rt:187:37
 slice-aggregate-put-text : tie.Need-slice-aggregate-put-text
 slice-aggregate-put-text c = search needs
 
--- src/replies.rt:187:17
 put-text-requires : tie.Need-put-text-requires
 put-text-requires c κs = search needs
 
--- src/replies.rt:188:17
 put-signed-requires : tie.Need-put-signed-requires
 put-signed-requires c κs = search needs
 
--- src/replies.rt:189:17
 put-signed-requires-2 : tie.Need-put-signed-requires-2
 put-signed-requires-2 c κs = search needs
 
--- src/replies.rt:190:31
 total-mass-requires : tie.Need-total-mass-requires
 total-mass-requires c κs = readable-of document01 (c .before .before .before .before .before .before .before .before .before .before .before .before .before .before .before .before .before .before .before .before .before .before .args .charge) (c .before .before .before .before .before .before .before .before .before .before .before .before .before .before .before .before .before .before .before .before .before .before .args .mk) (c .before .before .before .before .before .before .before .before .before .before .before .before .before .before .before .before .before .before .before .before .before .before .args .sheet .now) (past-heat (c .before .before .before .before .before .before .before .before .before .before .before .before .before .before .before .before .before .before .before .before .before .before .pre) document01 (c .before .before .before .before .before .before .before .before .before .before .before .before .before .before .before .before .before .before .before .before .before .before .args .charge) (c .before .before .before .before .before .before .before .before .before .before .before .before .before .before .before .before .before .before .before .before .before .before .args .mk) (ap paperGas (sym (c .before .before .before .before .before .before .before .before .before .before .before .before .before .before .before .before .before .gas .given .1)) ∙ (rw (back (c .before .before .before .before .before .before .before .before .before .before .before .before .before .before .before .before .before .before .before .before .before .before .fits .mk)) at (c .before .before .before .before .before .before .before .before .before .before .before .before .before .before .before .before .before .before .before .admit-at .ensures)))) .burns .limits
 
--- src/replies.rt:190:13
 put-number-requires : tie.Need-put-number-requires
 put-number-requires c κs = search needs
 
--- src/replies.rt:192:27
 enum-known-refusal : tie.Need-enum-known-refusal
 enum-known-refusal c = search needs
 
--- src/replies.rt:192:39
 put-refusal-requires : tie.Need-put-refusal-requires
 put-refusal-requires c κs = search needs
 
--- src/replies.rt:179:1
 same-length : tie.Need-same-length
 same-length c = search needs
 
--- src/replies.rt:179:1
 returns : tie.Need-returns
 returns c =
     let f : SFits w64 (c .before .before .before .before .before .before .before .before .before .before .before .before .before .before .before .before .before .before .specific-at .result) = search needs in
@@ -82,11 +68,9 @@ returns c =
     let told = told-through {B = Figures} (heatOrder document01 (c .before .before .before .before .before .before .before .before .before .before .before .before .before .before .before .before .before .before .before .before .before .before .before .before .before .before .before .args .charge) (c .before .before .before .before .before .before .before .before .before .before .before .before .before .before .before .before .before .before .before .before .before .before .before .before .before .before .before .args .mk) (c .before .before .before .before .before .before .before .before .before .before .before .before .before .before .before .before .before .before .before .before .before .before .before .before .before .before .before .args .sheet .now)) (gasOf (c .before .before .before .before .before .before .before .before .before .before .before .before .before .before .before .before .before .before .before .before .before .before .before .before .before .before .before .args .charge)) (λ (x : Gas). record { mk = (c .before .before .before .before .before .before .before .before .before .before .before .before .before .before .before .before .before .before .before .before .before .before .before .before .before .before .before .args .mk); specific = specificContent document01 (c .before .before .before .before .before .before .before .before .before .before .before .before .before .before .before .before .before .before .before .before .before .before .before .before .before .before .before .args .sheet .now) x (up (c .before .before .before .before .before .before .before .before .before .before .before .before .before .before .before .before .before .before .before .before .before .before .before .before .before .before .before .args .mk)); mass = pos (totalMass document01 x) }) {y = record { mk = (c .before .before .before .before .before .before .before .before .before .before .before .before .before .before .before .before .before .before .before .before .before .before .before .before .before .before .before .args .mk); specific = specificContent document01 (c .before .before .before .before .before .before .before .before .before .before .before .before .before .before .before .before .before .before .before .before .before .before .before .before .before .before .before .args .sheet .now) g (up (c .before .before .before .before .before .before .before .before .before .before .before .before .before .before .before .before .before .before .before .before .before .before .before .before .before .before .before .args .mk)); mass = pos (totalMass document01 g) }} (past-heat (c .before .before .before .before .before .before .before .before .before .before .before .before .before .before .before .before .before .before .before .before .before .before .before .before .before .before .before .pre) document01 (c .before .before .before .before .before .before .before .before .before .before .before .before .before .before .before .before .before .before .before .before .before .before .before .before .before .before .before .args .charge) (c .before .before .before .before .before .before .before .before .before .before .before .before .before .before .before .before .before .before .before .before .before .before .before .before .before .before .before .args .mk) (ap paperGas (sym (c .before .before .before .before .before .before .before .before .before .before .before .before .before .before .before .before .before .before .before .before .before .before .gas .given .1)) ∙ (rw (back (c .before .before .before .before .before .before .before .before .before .before .before .before .before .before .before .before .before .before .before .before .before .before .before .before .before .before .before .fits .mk)) at (c .before .before .before .before .before .before .before .before .before .before .before .before .before .before .before .before .before .before .before .before .before .before .before .before .admit-at .ensures)))) refl in
     subst (λ (x : Told Figures). Put (toldText figuresText x) (c .before .before .before .before .before .before .before .before .before .before .before .before .before .before .before .before .before .before .before .before .before .before .before .before .before .before .before .args .out .now) (c .before .before .before .before .before .before .before .before .before .before .before .before .before .before .before .before .before .before .before .before .before .before .before .before .before .before .before .args .at) (c .before .before .put-number .result) (c .before .before .put-number .last .1 .0)) told (put-then (put-then (put-then (c .before .before .before .before .before .before .before .before .before .before .before .before .before .before .before .put-text .ensures) (rw (back (c .before .before .before .before .before .before .before .before .before .before .before .before .before .before .before .before .before .before .before .before .before .before .before .before .before .before .before .fits .mk)) at (c .before .before .before .before .before .before .before .before .before .before .before .put-signed .ensures))) (rw (back f, rw (back (c .before .before .before .before .before .before .before .before .before .before .before .before .before .before .before .before .before .before .before .before .before .before .before .before .before .before .before .fits .mk)) at (c .before .before .before .before .before .before .before .before .before .before .before .before .before .before .before .before .before .before .specific-at .ensures)) at (c .before .before .before .before .before .before .before .put-signed2 .ensures))) (rw (c .before .before .before .before .total-mass .ensures) at (c .before .before .put-number .ensures)))
 
--- src/replies.rt:179:1
 same-length-2 : tie.Need-same-length-2
 same-length-2 c = search needs
 
--- src/replies.rt:179:1
 returns-2 : tie.Need-returns-2
 returns-2 c =
     let told = stopped {B = Figures} (heatOrder document01 (c .before .before .before .before .before .before .before .before .before .before .args .charge) (c .before .before .before .before .before .before .before .before .before .before .args .mk) (c .before .before .before .before .before .before .before .before .before .before .args .sheet .now)) [] (gasOf (c .before .before .before .before .before .before .before .before .before .before .args .charge)) (record { mk = (c .before .before .before .before .before .before .before .before .before .before .args .mk); specific = stationSpecific (c .before .before .before .before .before .before .before .before .before .before .args .charge) (c .before .before .before .before .before .before .before .before .before .before .args .mk) (c .before .before .before .before .before .before .before .before .before .before .args .sheet .now); mass = stationMass (c .before .before .before .before .before .before .before .before .before .before .args .charge) }) (c .before .before .before .before .before .refusal .given .0 .0) (past-heat (c .before .before .before .before .before .before .before .before .before .before .pre) document01 (c .before .before .before .before .before .before .before .before .before .before .args .charge) (c .before .before .before .before .before .before .before .before .before .before .args .mk) (ap paperGas (sym (c .before .before .before .before .before .refusal .given .1)) ∙ (rw (back (c .before .before .before .before .before .before .before .before .before .before .fits .mk)) at (c .before .before .before .before .before .before .before .admit-at .ensures)))) in

@@ -4,27 +4,21 @@ use borrow.Author.Needs.{needs}
 use Rattle.console.proofs.replies.ask_temperature.Statement.{statement}
 use Rattle.console.proofs.replies.ask_temperature.Tie as tie
 
--- src/replies.rt:148:67
 slice-aggregate-temperature : tie.Need-slice-aggregate-temperature
 slice-aggregate-temperature c = search needs
 
--- src/replies.rt:148:9
 temperature-requires : tie.Need-temperature-requires
 temperature-requires c κs = search needs
 
--- src/replies.rt:149:36
 slice-aggregate-put-temperature : tie.Need-slice-aggregate-put-temperature
 slice-aggregate-put-temperature c = search needs
 
--- src/replies.rt:149:5
 put-temperature-requires : tie.Need-put-temperature-requires
 put-temperature-requires c κs = search needs
 
--- src/replies.rt:143:1
 same-length : tie.Need-same-length
 same-length c = search needs
 
--- src/replies.rt:143:1
 returns : tie.Need-returns
 returns c = rw (back (c .before .before .before .before .before .before .before .before .before .before .fits .target)) at (rw (temperature-shown (c .before .before .before .before .before .before .before .before .before .before .args .charge) _ (c .before .before .before .before .before .before .before .before .before .before .args .sheet .now) (c .before .before .before .before .before .before .temperature .ensures)) at (c .before .before .put-temperature .ensures))
 

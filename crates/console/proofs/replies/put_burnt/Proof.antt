@@ -3,35 +3,27 @@ use borrow.Author.Needs.{needs}
 use Rattle.console.proofs.replies.put_burnt.Statement.{statement}
 use Rattle.console.proofs.replies.put_burnt.Tie as tie
 
--- src/replies.rt:91:24
 enum-known-answer : tie.Need-enum-known-answer
 enum-known-answer c = search needs
 
--- src/replies.rt:91:37
 put-products-requires : tie.Need-put-products-requires
 put-products-requires c κs = search needs
 
--- src/replies.rt:92:29
 enum-known-answer-2 : tie.Need-enum-known-answer-2
 enum-known-answer-2 c = search needs
 
--- src/replies.rt:92:41
 put-refusal-requires : tie.Need-put-refusal-requires
 put-refusal-requires c κs = search needs
 
--- src/replies.rt:87:1
 same-length : tie.Need-same-length
 same-length c = search needs
 
--- src/replies.rt:87:1
 returns : tie.Need-returns
 returns c = rw (c .before .before .before .before .before .answer .given .1) (c .before .before .put-products .ensures)
 
--- src/replies.rt:87:1
 same-length-2 : tie.Need-same-length-2
 same-length-2 c = search needs
 
--- src/replies.rt:87:1
 returns-2 : tie.Need-returns-2
 returns-2 c = rw (c .before .before .before .before .before .answer2 .given .1, told-refused) (c .before .before .put-refusal .ensures)
 

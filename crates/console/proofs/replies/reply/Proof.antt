@@ -3,175 +3,132 @@ use borrow.Author.Needs.{needs}
 use Rattle.console.proofs.replies.reply.Statement.{statement}
 use Rattle.console.proofs.replies.reply.Tie as tie
 
--- src/replies.rt:242:44
 enum-told : tie.Need-enum-told
 enum-told c = search needs
 
--- src/replies.rt:242:44
 read-one-requires : tie.Need-read-one-requires
 read-one-requires c κs = search needs
 
--- src/replies.rt:242:29
 reply-air-heat-requires : tie.Need-reply-air-heat-requires
 reply-air-heat-requires c κs = search needs
 
--- src/replies.rt:243:42
 enum-told-2 : tie.Need-enum-told-2
 enum-told-2 c = search needs
 
--- src/replies.rt:243:42
 read-one-requires-2 : tie.Need-read-one-requires-2
 read-one-requires-2 c κs = search needs
 
--- src/replies.rt:243:28
 reply-air-psi-requires : tie.Need-reply-air-psi-requires
 reply-air-psi-requires c κs = search needs
 
--- src/replies.rt:244:40
 enum-told-3 : tie.Need-enum-told-3
 enum-told-3 c = search needs
 
--- src/replies.rt:244:40
 read-one-requires-3 : tie.Need-read-one-requires-3
 read-one-requires-3 c κs = search needs
 
--- src/replies.rt:244:27
 reply-air-cp-requires : tie.Need-reply-air-cp-requires
 reply-air-cp-requires c κs = search needs
 
--- src/replies.rt:245:58
 enum-told-4 : tie.Need-enum-told-4
 enum-told-4 c = search needs
 
--- src/replies.rt:245:58
 read-one-requires-4 : tie.Need-read-one-requires-4
 read-one-requires-4 c κs = search needs
 
--- src/replies.rt:245:36
 reply-air-temperature-requires : tie.Need-reply-air-temperature-requires
 reply-air-temperature-requires c κs = search needs
 
--- src/replies.rt:246:37
 enum-told-5 : tie.Need-enum-told-5
 enum-told-5 c = search needs
 
--- src/replies.rt:246:37
 read-three-requires : tie.Need-read-three-requires
 read-three-requires c κs = search needs
 
--- src/replies.rt:246:26
 reply-burn-requires : tie.Need-reply-burn-requires
 reply-burn-requires c κs = search needs
 
--- src/replies.rt:247:24
 enum-known-request : tie.Need-enum-known-request
 enum-known-request c = search needs
 
--- src/replies.rt:248:44
 read-four-requires : tie.Need-read-four-requires
 read-four-requires c κs = search needs
 
--- src/replies.rt:248:17
 asked-of-requires : tie.Need-asked-of-requires
 asked-of-requires c κs = search needs
 
--- src/replies.rt:249:13
 reply-quantity-requires : tie.Need-reply-quantity-requires
 reply-quantity-requires c κs = rw (c .before .asked-of .ensures) (ready (c .before .before .before .before .before .before .before .before .before .args .sheet .now) (c .before .before .read-four .result) (c .before .before .before .before .before .before .before .before .before .args .verdict) (c .before .before .before .before .before .before .before .before .before .pre))
 
--- src/replies.rt:251:72
 enum-told-6 : tie.Need-enum-told-6
 enum-told-6 c = search needs
 
--- src/replies.rt:251:26
 reply-walk-requires : tie.Need-reply-walk-requires
 reply-walk-requires c κs = search needs
 
--- src/replies.rt:252:56
 enum-told-7 : tie.Need-enum-told-7
 enum-told-7 c = search needs
 
--- src/replies.rt:252:26
 reply-mark-requires : tie.Need-reply-mark-requires
 reply-mark-requires c κs = search needs
 
--- src/replies.rt:253:41
 enum-told-8 : tie.Need-enum-told-8
 enum-told-8 c = search needs
 
--- src/replies.rt:253:29
 put-unknown-requires : tie.Need-put-unknown-requires
 put-unknown-requires c κs = search needs
 
--- src/replies.rt:229:1
 same-length : tie.Need-same-length
 same-length c = search needs
 
--- src/replies.rt:229:1
 returns : tie.Need-returns
 returns c = rw (c .before .before .before .before .before .enum-told .given .1) (rw (c .before .before .before .before .read-one .ensures) at (c .before .before .reply-air-heat .ensures))
 
--- src/replies.rt:229:1
 same-length-2 : tie.Need-same-length-2
 same-length-2 c = search needs
 
--- src/replies.rt:229:1
 returns-2 : tie.Need-returns-2
 returns-2 c = rw (c .before .before .before .before .before .enum-told2 .given .1) (rw (c .before .before .before .before .read-one2 .ensures) at (c .before .before .reply-air-psi .ensures))
 
--- src/replies.rt:229:1
 same-length-3 : tie.Need-same-length-3
 same-length-3 c = search needs
 
--- src/replies.rt:229:1
 returns-3 : tie.Need-returns-3
 returns-3 c = rw (c .before .before .before .before .before .enum-told3 .given .1) (rw (c .before .before .before .before .read-one3 .ensures) at (c .before .before .reply-air-cp .ensures))
 
--- src/replies.rt:229:1
 same-length-4 : tie.Need-same-length-4
 same-length-4 c = search needs
 
--- src/replies.rt:229:1
 returns-4 : tie.Need-returns-4
 returns-4 c = rw (c .before .before .before .before .before .enum-told4 .given .1) (rw (c .before .before .before .before .read-one4 .ensures) at (c .before .before .reply-air-temperature .ensures))
 
--- src/replies.rt:229:1
 same-length-5 : tie.Need-same-length-5
 same-length-5 c = search needs
 
--- src/replies.rt:229:1
 returns-5 : tie.Need-returns-5
 returns-5 c = rw (c .before .before .before .before .before .enum-told5 .given .1) (rw (c .before .before .before .before .read-three .ensures) at (c .before .before .reply-burn .ensures))
 
--- src/replies.rt:229:1
 same-length-6 : tie.Need-same-length-6
 same-length-6 c = search needs
 
--- src/replies.rt:229:1
 returns-6 : tie.Need-returns-6
 returns-6 c = rw (c .before .before .before .before .before .before .before .request .given .1) (rw (c .before .before .before .before .asked-of .ensures, c .before .before .before .before .before .read-four .ensures) at (c .before .before .reply-quantity .ensures))
 
--- src/replies.rt:229:1
 same-length-7 : tie.Need-same-length-7
 same-length-7 c = search needs
 
--- src/replies.rt:229:1
 returns-7 : tie.Need-returns-7
 returns-7 c = rw (c .before .before .before .before .enum-told6 .given .1) (c .before .before .reply-walk .ensures)
 
--- src/replies.rt:229:1
 same-length-8 : tie.Need-same-length-8
 same-length-8 c = search needs
 
--- src/replies.rt:229:1
 returns-8 : tie.Need-returns-8
 returns-8 c = rw (c .before .before .before .before .enum-told7 .given .1) (c .before .before .reply-mark .ensures)
 
--- src/replies.rt:229:1
 same-length-9 : tie.Need-same-length-9
 same-length-9 c = search needs
 
--- src/replies.rt:229:1
 returns-9 : tie.Need-returns-9
 returns-9 c = rw (c .before .before .before .before .enum-told8 .given .1) (c .before .before .put-unknown .ensures)
 

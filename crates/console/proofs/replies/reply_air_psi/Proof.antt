@@ -5,41 +5,32 @@ use borrow.Author.Needs.{needs}
 use Rattle.console.proofs.replies.reply_air_psi.Statement.{statement}
 use Rattle.console.proofs.replies.reply_air_psi.Tie as tie
 
--- src/replies.rt:39:19
 enum-known-numbers : tie.Need-enum-known-numbers
 enum-known-numbers c = search needs
 
--- src/replies.rt:39:45
 psi-requires : tie.Need-psi-requires
 psi-requires c κs = search needs
 
--- src/replies.rt:39:26
 put-reading-requires : tie.Need-put-reading-requires
 put-reading-requires c κs = search needs
 
--- src/replies.rt:40:34
 enum-told : tie.Need-enum-told
 enum-told c = search needs
 
--- src/replies.rt:40:23
 put-misfit-requires : tie.Need-put-misfit-requires
 put-misfit-requires c κs = search needs
 
--- src/replies.rt:35:1
 same-length : tie.Need-same-length
 same-length c = search needs
 
--- src/replies.rt:35:1
 returns : tie.Need-returns
 returns c =
     let f : SFits w64 (c .before .before .before .before .before .before .numbers .given .0 .0) = search needs in
     rw (c .before .before .before .before .before .before .numbers .given .1) (rw (back f) at (rw (c .before .before .before .before .psi .ensures) at (c .before .before .put-reading .ensures)))
 
--- src/replies.rt:35:1
 same-length-2 : tie.Need-same-length-2
 same-length-2 c = search needs
 
--- src/replies.rt:35:1
 returns-2 : tie.Need-returns-2
 returns-2 c = rw (c .before .before .before .before .enum-told .given .1) (c .before .before .put-misfit .ensures)
 

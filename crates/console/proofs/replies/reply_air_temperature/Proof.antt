@@ -5,37 +5,29 @@ use borrow.Author.Needs.{needs}
 use Rattle.console.proofs.replies.reply_air_temperature.Statement.{statement}
 use Rattle.console.proofs.replies.reply_air_temperature.Tie as tie
 
--- src/replies.rt:81:19
 enum-known-numbers : tie.Need-enum-known-numbers
 enum-known-numbers c = search needs
 
--- src/replies.rt:81:27
 ask-psi-requires : tie.Need-ask-psi-requires
 ask-psi-requires c κs = search needs
 
--- src/replies.rt:82:34
 enum-told : tie.Need-enum-told
 enum-told c = search needs
 
--- src/replies.rt:82:23
 put-misfit-requires : tie.Need-put-misfit-requires
 put-misfit-requires c κs = search needs
 
--- src/replies.rt:77:1
 same-length : tie.Need-same-length
 same-length c = search needs
 
--- src/replies.rt:77:1
 returns : tie.Need-returns
 returns c =
     let f0 : SFits w64 (c .before .before .before .before .before .numbers .given .0 .0) = search needs in
     rw (c .before .before .before .before .before .numbers .given .1) (rw (back f0) at (c .before .before .ask-psi .ensures))
 
--- src/replies.rt:77:1
 same-length-2 : tie.Need-same-length-2
 same-length-2 c = search needs
 
--- src/replies.rt:77:1
 returns-2 : tie.Need-returns-2
 returns-2 c = rw (c .before .before .before .before .enum-told .given .1) (c .before .before .put-misfit .ensures)
 

@@ -5,31 +5,24 @@ use borrow.Author.Needs.{needs}
 use Rattle.console.proofs.replies.reply_burn.Statement.{statement}
 use Rattle.console.proofs.replies.reply_burn.Tie as tie
 
--- src/replies.rt:101:20
 enum-known-numbers : tie.Need-enum-known-numbers
 enum-known-numbers c = search needs
 
--- src/replies.rt:101:56
 burn-requires : tie.Need-burn-requires
 burn-requires c κs = search needs
 
--- src/replies.rt:101:46
 put-burnt-requires : tie.Need-put-burnt-requires
 put-burnt-requires c κs = search needs
 
--- src/replies.rt:102:34
 enum-told : tie.Need-enum-told
 enum-told c = search needs
 
--- src/replies.rt:102:23
 put-misfit-requires : tie.Need-put-misfit-requires
 put-misfit-requires c κs = search needs
 
--- src/replies.rt:97:1
 same-length : tie.Need-same-length
 same-length c = search needs
 
--- src/replies.rt:97:1
 returns : tie.Need-returns
 returns c =
     let f0 : SFits w64 (c .before .before .before .before .before .before .numbers .given .0 .0) = search needs in
@@ -37,11 +30,9 @@ returns c =
     let f2 : SFits w64 (c .before .before .before .before .before .before .numbers .given .0 .1 .1 .0) = search needs in
     rw (c .before .before .before .before .before .before .numbers .given .1) (rw (back f0, back f1, back f2) at (rw (c .before .before .before .before .burn .ensures) at (c .before .before .put-burnt .ensures)))
 
--- src/replies.rt:97:1
 same-length-2 : tie.Need-same-length-2
 same-length-2 c = search needs
 
--- src/replies.rt:97:1
 returns-2 : tie.Need-returns-2
 returns-2 c = rw (c .before .before .before .before .enum-told .given .1) (c .before .before .put-misfit .ensures)
 

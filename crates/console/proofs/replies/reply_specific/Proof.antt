@@ -8,57 +8,44 @@ use borrow.Author.Needs.{needs}
 use Rattle.console.proofs.replies.reply_specific.Statement.{statement}
 use Rattle.console.proofs.replies.reply_specific.Tie as tie
 
--- src/replies.rt:136:19
 enum-known-asked : tie.Need-enum-known-asked
 enum-known-asked c = search needs
 
--- src/replies.rt:136:54
 specific-content-requires : tie.Need-specific-content-requires
 specific-content-requires c κs = subst (λ (a : Asked). Ready a (c .before .before .before .before .before .args .sheet .now)) (c .before .asked .given .1) (c .before .before .before .before .before .pre)
 
--- src/replies.rt:136:34
 put-specific-requires : tie.Need-put-specific-requires
 put-specific-requires c κs = search needs
 
--- src/replies.rt:137:24
 enum-known-asked-2 : tie.Need-enum-known-asked-2
 enum-known-asked-2 c = search needs
 
--- src/replies.rt:137:36
 put-refusal-requires : tie.Need-put-refusal-requires
 put-refusal-requires c κs = search needs
 
--- src/replies.rt:138:37
 enum-told : tie.Need-enum-told
 enum-told c = search needs
 
--- src/replies.rt:138:26
 put-misfit-requires : tie.Need-put-misfit-requires
 put-misfit-requires c κs = search needs
 
--- src/replies.rt:131:1
 same-length : tie.Need-same-length
 same-length c = search needs
 
--- src/replies.rt:131:1
 returns : tie.Need-returns
 returns c =
     let f0 : SFits w64 (c .before .before .before .before .before .before .asked .given .0 .1 .0) = search needs in
     rw (c .before .before .before .before .before .before .asked .given .1) (rw (back f0) at (rw (c .before .before .before .before .specific-content .ensures) at (c .before .before .put-specific .ensures)))
 
--- src/replies.rt:131:1
 same-length-2 : tie.Need-same-length-2
 same-length-2 c = search needs
 
--- src/replies.rt:131:1
 returns-2 : tie.Need-returns-2
 returns-2 c = rw (c .before .before .before .before .before .asked2 .given .1) (c .before .before .put-refusal .ensures)
 
--- src/replies.rt:131:1
 same-length-3 : tie.Need-same-length-3
 same-length-3 c = search needs
 
--- src/replies.rt:131:1
 returns-3 : tie.Need-returns-3
 returns-3 c = rw (c .before .before .before .before .enum-told .given .1) (c .before .before .put-misfit .ensures)
 

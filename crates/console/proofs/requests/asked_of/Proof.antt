@@ -6,23 +6,18 @@ use borrow.Author.Needs.{needs}
 use Rattle.console.proofs.requests.asked_of.Statement.{statement}
 use Rattle.console.proofs.requests.asked_of.Tie as tie
 
--- src/requests.rt:92:19
 enum-known-numbers : tie.Need-enum-known-numbers
 enum-known-numbers c = search needs
 
--- src/requests.rt:94:17
 enum-told : tie.Need-enum-told
 enum-told c = search needs
 
--- src/requests.rt:101:34
 enum-known-verdict : tie.Need-enum-known-verdict
 enum-known-verdict c = search needs
 
--- src/requests.rt:103:22
 enum-told-2 : tie.Need-enum-told-2
 enum-told-2 c = search needs
 
--- src/requests.rt:88:1
 returns : tie.Need-returns
 returns c =
     let f0 : SFits w64 (c .before .before .before .numbers .given .0 .0) = search needs in
@@ -31,11 +26,9 @@ returns c =
     let f3 : SFits w64 (c .before .before .before .numbers .given .0 .1 .1 .1 .0) = search needs in
     rw (c .before .before .before .numbers .given .1, c .enum-told .given .1, back f0, back f1, back f2, back f3) refl
 
--- src/requests.rt:88:1
 returns-2 : tie.Need-returns-2
 returns-2 c = rw (c .before .before .before .before .numbers .given .1, c .before .verdict .given .1) refl
 
--- src/requests.rt:88:1
 returns-3 : tie.Need-returns-3
 returns-3 c = search needs
 

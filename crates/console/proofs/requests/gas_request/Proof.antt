@@ -5,76 +5,59 @@ use borrow.Author.Needs.{needs}
 use Rattle.console.proofs.requests.gas_request.Statement.{statement}
 use Rattle.console.proofs.requests.gas_request.Tie as tie
 
--- src/requests.rt:52:26
 slice-aggregate-same : tie.Need-slice-aggregate-same
 slice-aggregate-same c = search needs
 
--- src/requests.rt:52:8
 same-requires : tie.Need-same-requires
 same-requires c κs = search needs
 
--- src/requests.rt:53:9
 returns : tie.Need-returns
 unfolding gasRequest
 returns c = rw (same-is (c .before .before .before .before .args .word .now) burnWord (c .before .same .ensures) (c .if1 .taken)) refl
 
--- src/requests.rt:55:26
 slice-aggregate-same-2 : tie.Need-slice-aggregate-same-2
 slice-aggregate-same-2 c = search needs
 
--- src/requests.rt:55:8
 same-requires-2 : tie.Need-same-requires-2
 same-requires-2 c κs = search needs
 
--- src/requests.rt:56:9
 returns-2 : tie.Need-returns-2
 unfolding gasRequest
 returns-2 c = rw (same-is (c .before .before .before .before .before .before .before .args .word .now) burnWord (c .before .before .before .before .same .ensures) (c .before .before .before .if1 .left), same-is (c .before .before .before .before .before .before .before .args .word .now) gasHeatWord (c .before .same2 .ensures) (c .if2 .taken)) refl
 
--- src/requests.rt:58:26
 slice-aggregate-same-3 : tie.Need-slice-aggregate-same-3
 slice-aggregate-same-3 c = search needs
 
--- src/requests.rt:58:8
 same-requires-3 : tie.Need-same-requires-3
 same-requires-3 c κs = search needs
 
--- src/requests.rt:59:9
 returns-3 : tie.Need-returns-3
 unfolding gasRequest
 returns-3 c = rw (same-is (c .before .before .before .before .before .before .before .before .before .before .args .word .now) burnWord (c .before .before .before .before .before .before .before .same .ensures) (c .before .before .before .before .before .before .if1 .left), same-is (c .before .before .before .before .before .before .before .before .before .before .args .word .now) gasHeatWord (c .before .before .before .before .same2 .ensures) (c .before .before .before .if2 .left), same-is (c .before .before .before .before .before .before .before .before .before .before .args .word .now) contentWord (c .before .same3 .ensures) (c .if3 .taken)) refl
 
--- src/requests.rt:61:26
 slice-aggregate-same-4 : tie.Need-slice-aggregate-same-4
 slice-aggregate-same-4 c = search needs
 
--- src/requests.rt:61:8
 same-requires-4 : tie.Need-same-requires-4
 same-requires-4 c κs = search needs
 
--- src/requests.rt:62:9
 returns-4 : tie.Need-returns-4
 unfolding gasRequest
 returns-4 c = rw (same-is (c .before .before .before .before .before .before .before .before .before .before .before .before .before .args .word .now) burnWord (c .before .before .before .before .before .before .before .before .before .before .same .ensures) (c .before .before .before .before .before .before .before .before .before .if1 .left), same-is (c .before .before .before .before .before .before .before .before .before .before .before .before .before .args .word .now) gasHeatWord (c .before .before .before .before .before .before .before .same2 .ensures) (c .before .before .before .before .before .before .if2 .left), same-is (c .before .before .before .before .before .before .before .before .before .before .before .before .before .args .word .now) contentWord (c .before .before .before .before .same3 .ensures) (c .before .before .before .if3 .left), same-is (c .before .before .before .before .before .before .before .before .before .before .before .before .before .args .word .now) specificContentWord (c .before .same4 .ensures) (c .if4 .taken)) refl
 
--- src/requests.rt:64:26
 slice-aggregate-same-5 : tie.Need-slice-aggregate-same-5
 slice-aggregate-same-5 c = search needs
 
--- src/requests.rt:64:8
 same-requires-5 : tie.Need-same-requires-5
 same-requires-5 c κs = search needs
 
--- src/requests.rt:65:9
 returns-5 : tie.Need-returns-5
 unfolding gasRequest
 returns-5 c = rw (same-is (c .before .before .before .before .before .before .before .before .before .before .before .before .before .before .before .before .args .word .now) burnWord (c .before .before .before .before .before .before .before .before .before .before .before .before .before .same .ensures) (c .before .before .before .before .before .before .before .before .before .before .before .before .if1 .left), same-is (c .before .before .before .before .before .before .before .before .before .before .before .before .before .before .before .before .args .word .now) gasHeatWord (c .before .before .before .before .before .before .before .before .before .before .same2 .ensures) (c .before .before .before .before .before .before .before .before .before .if2 .left), same-is (c .before .before .before .before .before .before .before .before .before .before .before .before .before .before .before .before .args .word .now) contentWord (c .before .before .before .before .before .before .before .same3 .ensures) (c .before .before .before .before .before .before .if3 .left), same-is (c .before .before .before .before .before .before .before .before .before .before .before .before .before .before .before .before .args .word .now) specificContentWord (c .before .before .before .before .same4 .ensures) (c .before .before .before .if4 .left), same-is (c .before .before .before .before .before .before .before .before .before .before .before .before .before .before .before .before .args .word .now) temperatureWord (c .before .same5 .ensures) (c .if5 .taken)) refl
 
--- src/requests.rt:67:5
 other-request-requires : tie.Need-other-request-requires
 other-request-requires c κs = search needs
 
--- src/requests.rt:49:1
 returns-6 : tie.Need-returns-6
 unfolding gasRequest
 returns-6 c = rw (same-is (c .before .before .before .before .before .before .before .before .before .before .before .before .before .before .before .before .before .args .word .now) burnWord (c .before .before .before .before .before .before .before .before .before .before .before .before .before .before .same .ensures) (c .before .before .before .before .before .before .before .before .before .before .before .before .before .if1 .left), same-is (c .before .before .before .before .before .before .before .before .before .before .before .before .before .before .before .before .before .args .word .now) gasHeatWord (c .before .before .before .before .before .before .before .before .before .before .before .same2 .ensures) (c .before .before .before .before .before .before .before .before .before .before .if2 .left), same-is (c .before .before .before .before .before .before .before .before .before .before .before .before .before .before .before .before .before .args .word .now) contentWord (c .before .before .before .before .before .before .before .before .same3 .ensures) (c .before .before .before .before .before .before .before .if3 .left), same-is (c .before .before .before .before .before .before .before .before .before .before .before .before .before .before .before .before .before .args .word .now) specificContentWord (c .before .before .before .before .before .same4 .ensures) (c .before .before .before .before .if4 .left), same-is (c .before .before .before .before .before .before .before .before .before .before .before .before .before .before .before .before .before .args .word .now) temperatureWord (c .before .before .same5 .ensures) (c .before .if5 .left)) (c .other-request .ensures)

@@ -5,46 +5,36 @@ use borrow.Author.Needs.{needs}
 use Rattle.console.proofs.requests.other_request.Statement.{statement}
 use Rattle.console.proofs.requests.other_request.Tie as tie
 
--- src/requests.rt:76:26
 slice-aggregate-same : tie.Need-slice-aggregate-same
 slice-aggregate-same c = search needs
 
--- src/requests.rt:76:8
 same-requires : tie.Need-same-requires
 same-requires c κs = search needs
 
--- src/requests.rt:77:9
 returns : tie.Need-returns
 unfolding otherRequest
 returns c = rw (same-is (c .before .before .before .before .args .word .now) stationWord (c .before .same .ensures) (c .if1 .taken)) refl
 
--- src/requests.rt:79:26
 slice-aggregate-same-2 : tie.Need-slice-aggregate-same-2
 slice-aggregate-same-2 c = search needs
 
--- src/requests.rt:79:8
 same-requires-2 : tie.Need-same-requires-2
 same-requires-2 c κs = search needs
 
--- src/requests.rt:80:9
 returns-2 : tie.Need-returns-2
 unfolding otherRequest
 returns-2 c = rw (same-is (c .before .before .before .before .before .before .before .args .word .now) stationWord (c .before .before .before .before .same .ensures) (c .before .before .before .if1 .left), same-is (c .before .before .before .before .before .before .before .args .word .now) walkWord (c .before .same2 .ensures) (c .if2 .taken)) refl
 
--- src/requests.rt:82:26
 slice-aggregate-same-3 : tie.Need-slice-aggregate-same-3
 slice-aggregate-same-3 c = search needs
 
--- src/requests.rt:82:8
 same-requires-3 : tie.Need-same-requires-3
 same-requires-3 c κs = search needs
 
--- src/requests.rt:83:9
 returns-3 : tie.Need-returns-3
 unfolding otherRequest
 returns-3 c = rw (same-is (c .before .before .before .before .before .before .before .before .before .before .args .word .now) stationWord (c .before .before .before .before .before .before .before .same .ensures) (c .before .before .before .before .before .before .if1 .left), same-is (c .before .before .before .before .before .before .before .before .before .before .args .word .now) walkWord (c .before .before .before .before .same2 .ensures) (c .before .before .before .if2 .left), same-is (c .before .before .before .before .before .before .before .before .before .before .args .word .now) markWord (c .before .same3 .ensures) (c .if3 .taken)) refl
 
--- src/requests.rt:73:1
 returns-4 : tie.Need-returns-4
 unfolding otherRequest
 returns-4 c = rw (same-is (c .before .before .before .before .before .before .before .before .before .before .args .word .now) stationWord (c .before .before .before .before .before .before .before .same .ensures) (c .before .before .before .before .before .before .if1 .left), same-is (c .before .before .before .before .before .before .before .before .before .before .args .word .now) walkWord (c .before .before .before .before .same2 .ensures) (c .before .before .before .if2 .left), same-is (c .before .before .before .before .before .before .before .before .before .before .args .word .now) markWord (c .before .same3 .ensures) (c .if3 .left)) refl

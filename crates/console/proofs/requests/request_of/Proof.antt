@@ -5,63 +5,49 @@ use borrow.Author.Needs.{needs}
 use Rattle.console.proofs.requests.request_of.Statement.{statement}
 use Rattle.console.proofs.requests.request_of.Tie as tie
 
--- src/requests.rt:33:26
 slice-aggregate-same : tie.Need-slice-aggregate-same
 slice-aggregate-same c = search needs
 
--- src/requests.rt:33:8
 same-requires : tie.Need-same-requires
 same-requires c κs = search needs
 
--- src/requests.rt:34:9
 returns : tie.Need-returns
 unfolding requestOf
 returns c = rw (same-is (c .before .before .before .before .args .word .now) airHeatWord (c .before .same .ensures) (c .if1 .taken)) refl
 
--- src/requests.rt:36:26
 slice-aggregate-same-2 : tie.Need-slice-aggregate-same-2
 slice-aggregate-same-2 c = search needs
 
--- src/requests.rt:36:8
 same-requires-2 : tie.Need-same-requires-2
 same-requires-2 c κs = search needs
 
--- src/requests.rt:37:9
 returns-2 : tie.Need-returns-2
 unfolding requestOf
 returns-2 c = rw (same-is (c .before .before .before .before .before .before .before .args .word .now) airHeatWord (c .before .before .before .before .same .ensures) (c .before .before .before .if1 .left), same-is (c .before .before .before .before .before .before .before .args .word .now) airPsiWord (c .before .same2 .ensures) (c .if2 .taken)) refl
 
--- src/requests.rt:39:26
 slice-aggregate-same-3 : tie.Need-slice-aggregate-same-3
 slice-aggregate-same-3 c = search needs
 
--- src/requests.rt:39:8
 same-requires-3 : tie.Need-same-requires-3
 same-requires-3 c κs = search needs
 
--- src/requests.rt:40:9
 returns-3 : tie.Need-returns-3
 unfolding requestOf
 returns-3 c = rw (same-is (c .before .before .before .before .before .before .before .before .before .before .args .word .now) airHeatWord (c .before .before .before .before .before .before .before .same .ensures) (c .before .before .before .before .before .before .if1 .left), same-is (c .before .before .before .before .before .before .before .before .before .before .args .word .now) airPsiWord (c .before .before .before .before .same2 .ensures) (c .before .before .before .if2 .left), same-is (c .before .before .before .before .before .before .before .before .before .before .args .word .now) airCpWord (c .before .same3 .ensures) (c .if3 .taken)) refl
 
--- src/requests.rt:42:26
 slice-aggregate-same-4 : tie.Need-slice-aggregate-same-4
 slice-aggregate-same-4 c = search needs
 
--- src/requests.rt:42:8
 same-requires-4 : tie.Need-same-requires-4
 same-requires-4 c κs = search needs
 
--- src/requests.rt:43:9
 returns-4 : tie.Need-returns-4
 unfolding requestOf
 returns-4 c = rw (same-is (c .before .before .before .before .before .before .before .before .before .before .before .before .before .args .word .now) airHeatWord (c .before .before .before .before .before .before .before .before .before .before .same .ensures) (c .before .before .before .before .before .before .before .before .before .if1 .left), same-is (c .before .before .before .before .before .before .before .before .before .before .before .before .before .args .word .now) airPsiWord (c .before .before .before .before .before .before .before .same2 .ensures) (c .before .before .before .before .before .before .if2 .left), same-is (c .before .before .before .before .before .before .before .before .before .before .before .before .before .args .word .now) airCpWord (c .before .before .before .before .same3 .ensures) (c .before .before .before .if3 .left), same-is (c .before .before .before .before .before .before .before .before .before .before .before .before .before .args .word .now) airTemperatureWord (c .before .same4 .ensures) (c .if4 .taken)) refl
 
--- src/requests.rt:45:5
 gas-request-requires : tie.Need-gas-request-requires
 gas-request-requires c κs = search needs
 
--- src/requests.rt:30:1
 returns-5 : tie.Need-returns-5
 unfolding requestOf
 returns-5 c = rw (same-is (c .before .before .before .before .before .before .before .before .before .before .before .before .before .before .args .word .now) airHeatWord (c .before .before .before .before .before .before .before .before .before .before .before .same .ensures) (c .before .before .before .before .before .before .before .before .before .before .if1 .left), same-is (c .before .before .before .before .before .before .before .before .before .before .before .before .before .before .args .word .now) airPsiWord (c .before .before .before .before .before .before .before .before .same2 .ensures) (c .before .before .before .before .before .before .before .if2 .left), same-is (c .before .before .before .before .before .before .before .before .before .before .before .before .before .before .args .word .now) airCpWord (c .before .before .before .before .before .same3 .ensures) (c .before .before .before .before .if3 .left), same-is (c .before .before .before .before .before .before .before .before .before .before .before .before .before .before .args .word .now) airTemperatureWord (c .before .before .same4 .ensures) (c .before .if4 .left)) (c .gas-request .ensures)

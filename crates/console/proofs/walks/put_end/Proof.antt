@@ -3,63 +3,48 @@ use borrow.Author.Needs.{needs}
 use Rattle.console.proofs.walks.put_end.Statement.{statement}
 use Rattle.console.proofs.walks.put_end.Tie as tie
 
--- src/walks.rt:160:38
 enum-told : tie.Need-enum-told
 enum-told c = search needs
 
--- src/walks.rt:161:32
 enum-known-answer : tie.Need-enum-known-answer
 enum-known-answer c = search needs
 
--- src/walks.rt:161:49
 put-refused-requires : tie.Need-put-refused-requires
 put-refused-requires c κs = search needs
 
--- src/walks.rt:162:29
 enum-known-answer-2 : tie.Need-enum-known-answer-2
 enum-known-answer-2 c = search needs
 
--- src/walks.rt:163:28
 enum-known-refusal : tie.Need-enum-known-refusal
 enum-known-refusal c = search needs
 
--- src/walks.rt:163:39
 put-refused-requires-2 : tie.Need-put-refused-requires-2
 put-refused-requires-2 c κs = search needs
 
--- src/walks.rt:164:28
 enum-known-refusal-2 : tie.Need-enum-known-refusal-2
 enum-known-refusal-2 c = search needs
 
--- src/walks.rt:164:42
 put-refused-requires-3 : tie.Need-put-refused-requires-3
 put-refused-requires-3 c κs = search needs
 
--- src/walks.rt:155:1
 returns : tie.Need-returns
 returns c = rw (c .enum-told .given .1) (put-none (c .before .before .before .args .out .now) (c .before .before .before .args .at) (c .before .before .before .pre))
 
--- src/walks.rt:155:1
 same-length : tie.Need-same-length
 same-length c = search needs
 
--- src/walks.rt:155:1
 returns-2 : tie.Need-returns-2
 returns-2 c = rw (c .before .before .before .before .before .answer .given .1) (c .before .before .put-refused .ensures)
 
--- src/walks.rt:155:1
 same-length-2 : tie.Need-same-length-2
 same-length-2 c = search needs
 
--- src/walks.rt:155:1
 returns-3 : tie.Need-returns-3
 returns-3 c = rw (c .before .before .before .before .before .before .before .before .answer2 .given .1, c .before .before .before .before .before .refusal .given .1) (c .before .before .put-refused2 .ensures)
 
--- src/walks.rt:155:1
 same-length-3 : tie.Need-same-length-3
 same-length-3 c = search needs
 
--- src/walks.rt:155:1
 returns-4 : tie.Need-returns-4
 returns-4 c = rw (c .before .before .before .before .before .before .before .before .answer2 .given .1, c .before .before .before .before .before .refusal2 .given .1) (c .before .before .put-refused3 .ensures)
 

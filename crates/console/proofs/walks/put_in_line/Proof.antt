@@ -4,23 +4,18 @@ use borrow.Author.Needs.{needs}
 use Rattle.console.proofs.walks.put_in_line.Statement.{statement}
 use Rattle.console.proofs.walks.put_in_line.Tie as tie
 
--- src/walks.rt:72:9
 put-signed-requires : tie.Need-put-signed-requires
 put-signed-requires c κs = search needs
 
--- src/walks.rt:73:9
 put-signed-requires-2 : tie.Need-put-signed-requires-2
 put-signed-requires-2 c κs = search needs
 
--- src/walks.rt:74:5
 put-looks-requires : tie.Need-put-looks-requires
 put-looks-requires c κs = search needs
 
--- src/walks.rt:69:1
 same-length : tie.Need-same-length
 same-length c = search needs
 
--- src/walks.rt:69:1
 returns : tie.Need-returns
 returns c = put-then (put-then (rw (back (c .before .before .before .before .before .before .before .before .before .before .before .before .before .before .fits .mk)) at (c .before .before .before .before .before .before .before .before .before .before .put-signed .ensures)) (rw (back (c .before .before .before .before .before .before .before .before .before .before .before .before .before .before .fits .rest)) at (c .before .before .before .before .before .before .put-signed2 .ensures))) (c .before .before .put-looks .ensures)
 

@@ -3,23 +3,18 @@ use borrow.Author.Needs.{needs}
 use Rattle.console.proofs.walks.put_line.Statement.{statement}
 use Rattle.console.proofs.walks.put_line.Tie as tie
 
--- src/walks.rt:181:9
 put-course-requires : tie.Need-put-course-requires
 put-course-requires c κs = search needs
 
--- src/walks.rt:182:9
 steps-done-requires : tie.Need-steps-done-requires
 steps-done-requires c κs = search needs
 
--- src/walks.rt:183:5
 put-steps-requires : tie.Need-put-steps-requires
 put-steps-requires c κs = search needs
 
--- src/walks.rt:170:1
 same-length : tie.Need-same-length
 same-length c = search needs
 
--- src/walks.rt:170:1
 returns : tie.Need-returns
 returns c = put-then (c .before .before .before .before .before .before .before .put-course .ensures) (rw (c .before .before .before .before .steps-done .ensures) at (c .before .before .put-steps .ensures))
 

@@ -3,31 +3,24 @@ use borrow.Author.Needs.{needs}
 use Rattle.console.proofs.walks.put_page.Statement.{statement}
 use Rattle.console.proofs.walks.put_page.Tie as tie
 
--- src/walks.rt:198:31
 slice-aggregate-put-text : tie.Need-slice-aggregate-put-text
 slice-aggregate-put-text c = search needs
 
--- src/walks.rt:198:9
 put-text-requires : tie.Need-put-text-requires
 put-text-requires c κs = search needs
 
--- src/walks.rt:199:9
 steps-done-requires : tie.Need-steps-done-requires
 steps-done-requires c κs = search needs
 
--- src/walks.rt:200:9
 put-steps-requires : tie.Need-put-steps-requires
 put-steps-requires c κs = search needs
 
--- src/walks.rt:201:5
 put-end-requires : tie.Need-put-end-requires
 put-end-requires c κs = search needs
 
--- src/walks.rt:187:1
 same-length : tie.Need-same-length
 same-length c = search needs
 
--- src/walks.rt:187:1
 returns : tie.Need-returns
 returns c = put-then (put-then (c .before .before .before .before .before .before .before .before .before .before .before .put-text .ensures) (rw (c .before .before .before .before .before .before .before .before .steps-done .ensures) at (c .before .before .before .before .before .before .put-steps .ensures))) (c .before .before .put-end .ensures)
 

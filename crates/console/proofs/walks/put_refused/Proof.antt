@@ -3,27 +3,21 @@ use borrow.Author.Needs.{needs}
 use Rattle.console.proofs.walks.put_refused.Statement.{statement}
 use Rattle.console.proofs.walks.put_refused.Tie as tie
 
--- src/walks.rt:149:31
 slice-aggregate-put-text : tie.Need-slice-aggregate-put-text
 slice-aggregate-put-text c = search needs
 
--- src/walks.rt:149:9
 put-text-requires : tie.Need-put-text-requires
 put-text-requires c κs = search needs
 
--- src/walks.rt:150:9
 put-number-requires : tie.Need-put-number-requires
 put-number-requires c κs = search needs
 
--- src/walks.rt:151:5
 put-byte-requires : tie.Need-put-byte-requires
 put-byte-requires c κs = search needs
 
--- src/walks.rt:146:1
 same-length : tie.Need-same-length
 same-length c = search needs
 
--- src/walks.rt:146:1
 returns : tie.Need-returns
 returns c = put-then (put-then (c .before .before .before .before .before .before .before .before .before .before .put-text .ensures) (c .before .before .before .before .before .before .put-number .ensures)) (c .before .before .put-byte .ensures)
 

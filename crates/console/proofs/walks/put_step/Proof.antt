@@ -3,35 +3,27 @@ use borrow.Author.Needs.{needs}
 use Rattle.console.proofs.walks.put_step.Statement.{statement}
 use Rattle.console.proofs.walks.put_step.Tie as tie
 
--- src/walks.rt:108:54
 enum-told : tie.Need-enum-told
 enum-told c = search needs
 
--- src/walks.rt:108:25
 put-in-line-requires : tie.Need-put-in-line-requires
 put-in-line-requires c κs = search needs
 
--- src/walks.rt:109:62
 enum-told-2 : tie.Need-enum-told-2
 enum-told-2 c = search needs
 
--- src/walks.rt:109:25
 put-on-page-requires : tie.Need-put-on-page-requires
 put-on-page-requires c κs = search needs
 
--- src/walks.rt:96:1
 same-length : tie.Need-same-length
 same-length c = search needs
 
--- src/walks.rt:96:1
 returns : tie.Need-returns
 returns c = rw (c .before .before .before .before .enum-told .given .1) (rw (back (c .before .before .before .before .before .before .before .before .fits .mk), back (c .before .before .before .before .before .before .before .before .fits .rest)) at (c .before .before .put-in-line .ensures))
 
--- src/walks.rt:96:1
 same-length-2 : tie.Need-same-length-2
 same-length-2 c = search needs
 
--- src/walks.rt:96:1
 returns-2 : tie.Need-returns-2
 returns-2 c = rw (c .before .before .before .before .enum-told2 .given .1) (rw (back (c .before .before .before .before .before .before .before .before .fits .mk), back (c .before .before .before .before .before .before .before .before .fits .rest)) at (c .before .before .put-on-page .ensures))
 

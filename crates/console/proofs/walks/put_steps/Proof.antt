@@ -18,67 +18,51 @@ Inv-loop layout n temperatures rests looks out₀ at next₀ i₀ out next i = P
 abbrev μ-loop : tie.MeasureT-loop
 μ-loop layout n temperatures rests looks out₀ at next₀ i₀ out next i = n - i
 
--- src/walks.rt:128:5
 loop-holds : tie.Need-loop-holds Inv-loop μ-loop
 loop-holds c = none-put (c .before .before .args .layout) (c .before .before .args .n) (c .before .before .args .temperatures .now) (c .before .before .args .rests .now) (c .before .before .args .looks .now) (c .before .before .args .out .now) (c .before .before .args .at) (c .before .before .pre .1)
 
--- src/walks.rt:129:20
 mul-from : tie.Need-mul-from Inv-loop μ-loop
 mul-from c = omega (arith, c .before .before .before .before .pre .0 .temperatures, c .before .before .before .before .pre .0 .rests, c .before .before .before .before .pre .0 .looks, c .before .loop .inv .within)
 
--- src/walks.rt:130:19
 add-end : tie.Need-add-end Inv-loop μ-loop
 add-end c = omega (arith, c .before .before .before .before .pre .0 .temperatures, c .before .before .before .before .pre .0 .rests, c .before .before .before .before .pre .0 .looks, c .before .loop .inv .within)
 
--- src/walks.rt:133:13
 add-put-step : tie.Need-add-put-step Inv-loop μ-loop
 add-put-step c = omega (arith, c .before .before .before .before .pre .0 .temperatures, c .before .before .before .before .pre .0 .rests, c .before .before .before .before .pre .0 .looks, c .before .loop .inv .within)
 
--- src/walks.rt:134:13
 mul-put-step : tie.Need-mul-put-step Inv-loop μ-loop
 mul-put-step c = omega (arith, c .before .before .before .before .pre .0 .temperatures, c .before .before .before .before .pre .0 .rests, c .before .before .before .before .pre .0 .looks, c .before .loop .inv .within)
 
--- src/walks.rt:134:13
 shared-slice-copy-out-put-step : tie.Need-shared-slice-copy-out-put-step Inv-loop μ-loop
 shared-slice-copy-out-put-step c = omega (arith, c .before .before .before .before .pre .0 .temperatures, c .before .before .before .before .pre .0 .rests, c .before .before .before .before .pre .0 .looks, c .before .loop .inv .within)
 
--- src/walks.rt:135:13
 mul-put-step-2 : tie.Need-mul-put-step-2 Inv-loop μ-loop
 mul-put-step-2 c = omega (arith, c .before .before .before .before .before .pre .0 .temperatures, c .before .before .before .before .before .pre .0 .rests, c .before .before .before .before .before .pre .0 .looks, c .before .before .loop .inv .within)
 
--- src/walks.rt:135:13
 shared-slice-copy-out-put-step-2 : tie.Need-shared-slice-copy-out-put-step-2 Inv-loop μ-loop
 shared-slice-copy-out-put-step-2 c = omega (arith, c .before .before .before .before .before .pre .0 .temperatures, c .before .before .before .before .before .pre .0 .rests, c .before .before .before .before .before .pre .0 .looks, c .before .before .loop .inv .within)
 
--- src/walks.rt:136:13
 mul-put-step-3 : tie.Need-mul-put-step-3 Inv-loop μ-loop
 mul-put-step-3 c = omega (arith, c .before .before .before .before .before .before .pre .0 .temperatures, c .before .before .before .before .before .before .pre .0 .rests, c .before .before .before .before .before .before .pre .0 .looks, c .before .before .before .loop .inv .within)
 
--- src/walks.rt:136:13
 sub-put-step : tie.Need-sub-put-step Inv-loop μ-loop
 sub-put-step c = omega (arith, c .before .before .before .before .before .before .pre .0 .temperatures, c .before .before .before .before .before .before .pre .0 .rests, c .before .before .before .before .before .before .pre .0 .looks, c .before .before .before .loop .inv .within)
 
--- src/walks.rt:136:13
 part-put-step-start : tie.Need-part-put-step-start Inv-loop μ-loop
 part-put-step-start c = omega (arith, c .before .before .before .before .before .before .pre .0 .temperatures, c .before .before .before .before .before .before .pre .0 .rests, c .before .before .before .before .before .before .pre .0 .looks, c .before .before .before .loop .inv .within)
 
--- src/walks.rt:136:13
 part-put-step-end : tie.Need-part-put-step-end Inv-loop μ-loop
 part-put-step-end c = omega (arith, c .before .before .before .before .before .before .pre .0 .temperatures, c .before .before .before .before .before .before .pre .0 .rests, c .before .before .before .before .before .before .pre .0 .looks, c .before .before .before .loop .inv .within)
 
--- src/walks.rt:131:9
 put-step-requires : tie.Need-put-step-requires Inv-loop μ-loop
 put-step-requires c κs = tt
 
--- src/walks.rt:140:9
 add-i : tie.Need-add-i Inv-loop μ-loop
 add-i c = omega (arith, c .before .before .before .before .before .before .before .before .before .before .before .pre .0 .temperatures, c .before .before .before .before .before .before .before .before .before .before .before .pre .0 .rests, c .before .before .before .before .before .before .before .before .before .before .before .pre .0 .looks, c .before .before .before .before .before .before .before .before .loop .inv .within)
 
--- src/walks.rt:128:5
 loop-less : tie.Need-loop-less Inv-loop μ-loop
 loop-less c = omega (arith, c .before .before .before .before .before .before .before .before .before .before .before .pre .0 .temperatures, c .before .before .before .before .before .before .before .before .before .before .before .pre .0 .rests, c .before .before .before .before .before .before .before .before .before .before .before .pre .0 .looks, c .before .before .before .before .before .before .before .before .loop .inv .within)
 
--- src/walks.rt:128:5
 loop-again : tie.Need-loop-again Inv-loop μ-loop
 loop-again c =
     let f0 : SFits w64 (getD (c .before .before .before .before .before .before .before .before .before .before .before .args .temperatures .now) (c .before .before .before .before .before .before .before .before .loop .i) (pos 0)) = search needs in
@@ -86,11 +70,9 @@ loop-again c =
     let e : 11 * (c .before .before .before .before .before .before .before .before .loop .i) + 11 - 11 * (c .before .before .before .before .before .before .before .before .loop .i) ≡ 11 = omega arith in
     one-more (c .before .before .before .before .before .before .before .before .before .before .before .args .layout) (c .before .before .before .before .before .before .before .before .before .before .before .args .n) (c .before .before .before .before .before .before .before .before .before .before .before .args .temperatures .now) (c .before .before .before .before .before .before .before .before .before .before .before .args .rests .now) (c .before .before .before .before .before .before .before .before .before .before .before .args .looks .now) (c .before .before .before .before .before .before .before .before .loop .inv) (omega arith) (rw (back f0, back f1, e) at (c .before .before .put-step .ensures))
 
--- src/walks.rt:114:1
 same-length : tie.Need-same-length Inv-loop μ-loop
 same-length c = c .before .loop .inv .put .same-length
 
--- src/walks.rt:114:1
 returns : tie.Need-returns Inv-loop μ-loop
 returns c = all-put (c .before .before .before .before .args .layout) (c .before .before .before .before .args .n) (c .before .before .before .before .args .temperatures .now) (c .before .before .before .before .args .rests .now) (c .before .before .before .before .args .looks .now) (c .before .loop .inv) (omega arith)
 

@@ -2,35 +2,27 @@ use borrow.Author.Needs.{needs}
 use Rattle.console.proofs.walks.put_walk.Statement.{statement}
 use Rattle.console.proofs.walks.put_walk.Tie as tie
 
--- src/walks.rt:218:70
 enum-told : tie.Need-enum-told
 enum-told c = search needs
 
--- src/walks.rt:218:25
 put-line-requires : tie.Need-put-line-requires
 put-line-requires c κs = search needs
 
--- src/walks.rt:219:70
 enum-told-2 : tie.Need-enum-told-2
 enum-told-2 c = search needs
 
--- src/walks.rt:219:25
 put-page-requires : tie.Need-put-page-requires
 put-page-requires c κs = search needs
 
--- src/walks.rt:205:1
 same-length : tie.Need-same-length
 same-length c = search needs
 
--- src/walks.rt:205:1
 returns : tie.Need-returns
 returns c = rw (c .before .before .before .before .enum-told .given .1) (c .before .before .put-line .ensures)
 
--- src/walks.rt:205:1
 same-length-2 : tie.Need-same-length-2
 same-length-2 c = search needs
 
--- src/walks.rt:205:1
 returns-2 : tie.Need-returns-2
 returns-2 c = rw (c .before .before .before .before .enum-told2 .given .1) (c .before .before .put-page .ensures)
 

@@ -11,63 +11,48 @@ use borrow.Author.Needs.{needs}
 use Rattle.console.proofs.walks.reply_walk.Statement.{statement}
 use Rattle.console.proofs.walks.reply_walk.Tie as tie
 
--- src/walks.rt:314:54
 slice-aggregate-read-numbers : tie.Need-slice-aggregate-read-numbers
 slice-aggregate-read-numbers c = search needs
 
--- src/walks.rt:314:21
 read-numbers-requires : tie.Need-read-numbers-requires
 read-numbers-requires c κs = search needs
 
--- src/walks.rt:314:9
 held-of-requires : tie.Need-held-of-requires
 held-of-requires c κs = search needs
 
--- src/walks.rt:316:9
 put-misfit-requires : tie.Need-put-misfit-requires
 put-misfit-requires c κs = search needs
 
--- src/walks.rt:316:9
 same-length : tie.Need-same-length
 same-length c = search needs
 
--- src/walks.rt:316:9
 returns : tie.Need-returns
 returns c = rw (← walk-misfit (c .before .before .before .before .before .before .before .before .before .before .before .before .args .verdict) (c .before .before .before .before .before .before .before .before .before .before .before .before .args .sheet .now) (fieldsFrom (c .before .before .before .before .before .before .before .before .before .before .before .before .args .line .now) (c .before .before .before .before .before .before .before .before .before .before .before .before .args .from)) (replicate 261 (pos 0)) (c .before .before .before .before .before .before .before .read-numbers .last .1 .1 .0) refl (c .before .before .before .before .before .before .before .read-numbers .result) (c .before .before .before .before .before .held-of .result) (c .before .before .before .before .before .before .before .read-numbers .ensures .0) (c .before .before .before .before .before .held-of .ensures) (c .before .before .before .before .if1 .taken)) (c .before .before .put-misfit .ensures)
 
--- src/walks.rt:319:14
 array-copy-out-t19 : tie.Need-array-copy-out-t19
 array-copy-out-t19 c = search needs
 
--- src/walks.rt:320:17
 array-copy-out-t22 : tie.Need-array-copy-out-t22
 array-copy-out-t22 c = search needs
 
--- src/walks.rt:321:19
 array-copy-out-t25 : tie.Need-array-copy-out-t25
 array-copy-out-t25 c = search needs
 
--- src/walks.rt:323:25
 array-copy-out-t19-2 : tie.Need-array-copy-out-t19-2
 array-copy-out-t19-2 c = search needs
 
--- src/walks.rt:324:34
 part-show-start : tie.Need-part-show-start
 part-show-start c = search needs
 
--- src/walks.rt:324:34
 part-show-end : tie.Need-part-show-end
 part-show-end c = omega (arith, (c .before .before .before .before .before .before .held-of .ensures), held-most (c .before .before .before .before .before .before .before .before .read-numbers .result) 261)
 
--- src/walks.rt:324:5
 show-requires : tie.Need-show-requires
 show-requires c κs = search needs
 
--- src/walks.rt:302:1
 same-length-2 : tie.Need-same-length-2
 same-length-2 c = search needs
 
--- src/walks.rt:302:1
 returns-2 : tie.Need-returns-2
 returns-2 c =
     let f0 : SFits w64 (getD (c .before .before .before .before .before .before .before .before .before .before .before .before .before .read-numbers .last .1 .1 .0) 0 (pos 0)) = search needs in

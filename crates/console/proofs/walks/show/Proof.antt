@@ -4,43 +4,33 @@ use borrow.Author.Needs.{needs}
 use Rattle.console.proofs.walks.show.Statement.{statement}
 use Rattle.console.proofs.walks.show.Tie as tie
 
--- src/walks.rt:276:9
 slice-aggregate-walk-held : tie.Need-slice-aggregate-walk-held
 slice-aggregate-walk-held c = search needs
 
--- src/walks.rt:277:9
 slice-aggregate-walk-held-2 : tie.Need-slice-aggregate-walk-held-2
 slice-aggregate-walk-held-2 c = search needs
 
--- src/walks.rt:278:9
 slice-aggregate-walk-held-3 : tie.Need-slice-aggregate-walk-held-3
 slice-aggregate-walk-held-3 c = search needs
 
--- src/walks.rt:272:9
 walk-held-requires : tie.Need-walk-held-requires
 walk-held-requires c κs = search needs
 
--- src/walks.rt:282:30
 slice-aggregate-put-walk : tie.Need-slice-aggregate-put-walk
 slice-aggregate-put-walk c = search needs
 
--- src/walks.rt:282:45
 slice-aggregate-put-walk-2 : tie.Need-slice-aggregate-put-walk-2
 slice-aggregate-put-walk-2 c = search needs
 
--- src/walks.rt:282:53
 slice-aggregate-put-walk-3 : tie.Need-slice-aggregate-put-walk-3
 slice-aggregate-put-walk-3 c = search needs
 
--- src/walks.rt:282:5
 put-walk-requires : tie.Need-put-walk-requires
 put-walk-requires c κs = holds (walkTold (c .before .before .before .before .before .before .before .before .before .before .before .before .before .args .verdict) (c .before .before .before .before .before .before .before .before .before .before .before .before .before .args .sheet .now) (c .before .before .before .before .before .before .before .before .before .before .before .before .before .args .charge) ((c .before .before .before .before .before .before .before .before .before .before .before .before .before .args .t) .0) (c .before .before .before .before .before .before .before .before .before .before .before .before .before .args .steps .now)) (c .before .before .before .before .before .before .before .walk-held .ensures) (search needs) (search needs) (search needs)
 
--- src/walks.rt:256:1
 same-length : tie.Need-same-length
 same-length c = search needs
 
--- src/walks.rt:256:1
 returns : tie.Need-returns
 returns c = rw (walk-shown (walkTold (c .before .before .before .before .before .before .before .before .before .before .before .before .before .before .before .before .args .verdict) (c .before .before .before .before .before .before .before .before .before .before .before .before .before .before .before .before .args .sheet .now) (c .before .before .before .before .before .before .before .before .before .before .before .before .before .before .before .before .args .charge) ((c .before .before .before .before .before .before .before .before .before .before .before .before .before .before .before .before .args .t) .0) (c .before .before .before .before .before .before .before .before .before .before .before .before .before .before .before .before .args .steps .now)) (c .before .before .before .before .before .before .before .before .before .before .walk-held .ensures) (walk-searched (c .before .before .before .before .before .before .before .before .before .before .before .before .before .before .before .before .args .verdict) (c .before .before .before .before .before .before .before .before .before .before .before .before .before .before .before .before .args .sheet .now) (c .before .before .before .before .before .before .before .before .before .before .before .before .before .before .before .before .args .charge) ((c .before .before .before .before .before .before .before .before .before .before .before .before .before .before .before .before .args .t) .0) (c .before .before .before .before .before .before .before .before .before .before .before .before .before .before .before .before .args .steps .now)) (c .before .before .before .before .before .before .before .before .before .before .before .before .before .before .before .before .args .layout)) at (c .before .before .put-walk .ensures)
 

@@ -4,35 +4,27 @@ use borrow.Author.Needs.{needs}
 use Rattle.console.proofs.walks.steps_done.Statement.{statement}
 use Rattle.console.proofs.walks.steps_done.Tie as tie
 
--- src/walks.rt:62:26
 enum-known-answer : tie.Need-enum-known-answer
 enum-known-answer c = search needs
 
--- src/walks.rt:62:38
 cast-result : tie.Need-cast-result
 cast-result c = search needs
 
--- src/walks.rt:63:29
 enum-known-answer-2 : tie.Need-enum-known-answer-2
 enum-known-answer-2 c = search needs
 
--- src/walks.rt:63:44
 cast-result-2 : tie.Need-cast-result-2
 cast-result-2 c = search needs
 
--- src/walks.rt:64:35
 enum-told : tie.Need-enum-told
 enum-told c = search needs
 
--- src/walks.rt:58:1
 returns : tie.Need-returns
 returns c = search needs
 
--- src/walks.rt:58:1
 returns-2 : tie.Need-returns-2
 returns-2 c = rw (c .before .answer2 .given .1) refl
 
--- src/walks.rt:58:1
 returns-3 : tie.Need-returns-3
 returns-3 c = rw (c .enum-told .given .1) (none-done (c .enum-told .given .0 .0))
 

@@ -6,41 +6,32 @@ use borrow.Author.Needs.{needs}
 use Rattle.console.proofs.walks.walk_held.Statement.{statement}
 use Rattle.console.proofs.walks.walk_held.Tie as tie
 
--- src/walks.rt:239:23
 enum-told : tie.Need-enum-told
 enum-told c = search needs
 
--- src/walks.rt:239:23
 heat-column-requires : tie.Need-heat-column-requires
 heat-column-requires c κs = search needs
 
--- src/walks.rt:240:13
 walk-judged-requires : tie.Need-walk-judged-requires
 walk-judged-requires c κs = (subst (λ (v : SheetAnswer). Judged v (c .before .before .before .before .before .before .before .before .before .args .sheet .now)) (c .before .before .before .before .before .enum-told .given .1) (c .before .before .before .before .before .before .before .before .before .pre .0), (c .before .before .before .before .heat-column .ensures))
 
--- src/walks.rt:251:30
 enum-known-verdict : tie.Need-enum-known-verdict
 enum-known-verdict c = search needs
 
--- src/walks.rt:224:1
 same-length : tie.Need-same-length
 same-length c = search needs
 
--- src/walks.rt:224:1
 same-length-2 : tie.Need-same-length-2
 same-length-2 c = search needs
 
--- src/walks.rt:224:1
 same-length-3 : tie.Need-same-length-3
 same-length-3 c = search needs
 
--- src/walks.rt:224:1
 returns : tie.Need-returns
 returns c =
     let ok = subst (λ (v : SheetAnswer). Judged v (c .before .before .before .before .before .before .before .before .before .before .before .before .before .before .args .sheet .now)) (c .before .before .before .before .before .before .before .before .before .before .enum-told .given .1) (c .before .before .before .before .before .before .before .before .before .before .before .before .before .before .pre .0) in
     rw (c .before .before .before .before .before .before .before .before .before .before .enum-told .given .1) (rw (c .before .before .before .before .before .before .before .before .before .before .before .before .before .before .pre .1, c .before .before .before .before .before .before .before .before .before .before .before .before .before .before .pre .2, c .before .before .before .before .before .before .before .before .before .before .before .before .before .before .pre .3, walks-accepted (c .before .before .before .before .before .before .before .before .before .before .before .before .before .before .args .charge) ((c .before .before .before .before .before .before .before .before .before .before .before .before .before .before .args .t) .0) (c .before .before .before .before .before .before .before .before .before .before .before .before .before .before .args .steps .now) ok) at (c .before .before .before .before .walk-judged .ensures))
 
--- src/walks.rt:224:1
 returns-2 : tie.Need-returns-2
 returns-2 c = rw (c .before .verdict .given .1) (walks-refused _ _ _ _)
 

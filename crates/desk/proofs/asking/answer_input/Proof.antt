@@ -16,87 +16,66 @@ Inv-loop verdict sheet piece₀ line₀ out₀ held₀ turns₀ t9 piece line ou
 abbrev μ-loop : tie.MeasureT-loop
 μ-loop verdict sheet piece₀ line₀ out₀ held₀ turns₀ t9 piece line out held turns = turns
 
--- src/asking.rt:32:5
 loop-holds : tie.Need-loop-holds Inv-loop μ-loop
 loop-holds c = search needs
 
--- src/asking.rt:33:9
 sub-turns : tie.Need-sub-turns Inv-loop μ-loop
 sub-turns c = search needs
 
--- src/asking.rt:34:47
 slice-aggregate-read-some : tie.Need-slice-aggregate-read-some Inv-loop μ-loop
 slice-aggregate-read-some c = search needs
 
--- src/asking.rt:34:15
 read-some-requires : tie.Need-read-some-requires Inv-loop μ-loop
 read-some-requires c κs = search needs
 
--- src/asking.rt:35:24
 enum-known-n : tie.Need-enum-known-n Inv-loop μ-loop
 enum-known-n c = search needs
 
--- src/asking.rt:36:43
 slice-reshare-prefix-answer-piece : tie.Need-slice-reshare-prefix-answer-piece Inv-loop μ-loop
 slice-reshare-prefix-answer-piece c = let h : c .before .n .given .0 .0 ≤ length (c .before .before .before .before .before .read-some .last .1 .1 .0) = subst (λ (g : Got). Inside g (c .before .before .before .before .before .read-some .last .1 .1 .0)) (c .before .n .given .1) (c .before .before .before .before .before .read-some .ensures) in omega arith
 
--- src/asking.rt:36:43
 slice-aggregate-answer-piece : tie.Need-slice-aggregate-answer-piece Inv-loop μ-loop
 slice-aggregate-answer-piece c = let h : c .before .before .n .given .0 .0 ≤ length (c .before .before .before .before .before .before .read-some .last .1 .1 .0) = subst (λ (g : Got). Inside g (c .before .before .before .before .before .before .read-some .last .1 .1 .0)) (c .before .before .n .given .1) (c .before .before .before .before .before .before .read-some .ensures) in simp length-take (omega arith)
 
--- src/asking.rt:36:17
 answer-piece-requires : tie.Need-answer-piece-requires Inv-loop μ-loop
 answer-piece-requires c κs = search needs
 
--- src/asking.rt:32:5
 loop-less : tie.Need-loop-less Inv-loop μ-loop
 loop-less c = search needs
 
--- src/asking.rt:32:5
 loop-again : tie.Need-loop-again Inv-loop μ-loop
 loop-again c = search needs
 
--- src/asking.rt:39:35
 enum-told : tie.Need-enum-told Inv-loop μ-loop
 enum-told c = search needs
 
--- src/asking.rt:39:17
 answer-last-requires : tie.Need-answer-last-requires Inv-loop μ-loop
 answer-last-requires c κs = search needs
 
--- src/asking.rt:32:5
 loop-less-2 : tie.Need-loop-less-2 Inv-loop μ-loop
 loop-less-2 c = search needs
 
--- src/asking.rt:32:5
 loop-again-2 : tie.Need-loop-again-2 Inv-loop μ-loop
 loop-again-2 c = search needs
 
--- src/asking.rt:43:17
 enum-told-2 : tie.Need-enum-told-2 Inv-loop μ-loop
 enum-told-2 c = search needs
 
--- src/asking.rt:32:5
 loop-less-3 : tie.Need-loop-less-3 Inv-loop μ-loop
 loop-less-3 c = search needs
 
--- src/asking.rt:32:5
 loop-again-3 : tie.Need-loop-again-3 Inv-loop μ-loop
 loop-again-3 c = search needs
 
--- src/asking.rt:21:1
 same-length : tie.Need-same-length Inv-loop μ-loop
 same-length c = search needs
 
--- src/asking.rt:21:1
 same-length-2 : tie.Need-same-length-2 Inv-loop μ-loop
 same-length-2 c = search needs
 
--- src/asking.rt:21:1
 same-length-3 : tie.Need-same-length-3 Inv-loop μ-loop
 same-length-3 c = search needs
 
--- src/asking.rt:21:1
 returns : tie.Need-returns Inv-loop μ-loop
 returns c = search needs
 

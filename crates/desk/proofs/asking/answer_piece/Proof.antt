@@ -1,58 +1,47 @@
 use native.Mathlib.Omega.{arith}
 use lib.ListN.{length}
 use mathlib.Core.Path.{_≡_}
-use Prim.Native.Nat.{_-_}
+use Prim.Native.Nat.{_/_, _-_, _≤_}
 use borrow.Author.Needs.{needs}
 use Rattle.desk.proofs.asking.answer_piece.Statement.{statement}
 use Rattle.desk.proofs.asking.answer_piece.Tie as tie
 
 abbrev Inv-loop : tie.InvT-loop
-Inv-loop piece verdict sheet line₀ out₀ held₀ at₀ from₀ line out held at from = (length line ≡ length line₀) × (length out ≡ length out₀)
+Inv-loop piece verdict sheet line₀ out₀ held₀ at₀ from₀ line out held at from = (length line ≡ length line₀) × (length out ≡ length out₀) × (at ≤ length out / 2)
 
 abbrev μ-loop : tie.MeasureT-loop
 μ-loop piece verdict sheet line₀ out₀ held₀ at₀ from₀ line out held at from = length piece - from
 
--- src/asking.rt:63:5
 loop-holds : tie.Need-loop-holds Inv-loop μ-loop
 loop-holds c = search needs
 
--- src/asking.rt:64:13
 take-line-requires : tie.Need-take-line-requires Inv-loop μ-loop
 take-line-requires c κs = search needs
 
--- src/asking.rt:68:13
 answer-held-requires : tie.Need-answer-held-requires Inv-loop μ-loop
 answer-held-requires c κs = search needs
 
--- src/asking.rt:63:5
 loop-less : tie.Need-loop-less Inv-loop μ-loop
 loop-less c = omega (arith, c .before .before .before .before .before .before .before .before .take-line .ensures .on (c .before .before .before .before .before .before .before .before .before .before .loop-test .taken))
 
--- src/asking.rt:63:5
 loop-again : tie.Need-loop-again Inv-loop μ-loop
 loop-again c = search needs
 
--- src/asking.rt:63:5
 loop-less-2 : tie.Need-loop-less-2 Inv-loop μ-loop
 loop-less-2 c = omega (arith, c .before .before .before .take-line .ensures .on (c .before .before .before .before .before .loop-test .taken))
 
--- src/asking.rt:63:5
 loop-again-2 : tie.Need-loop-again-2 Inv-loop μ-loop
 loop-again-2 c = search needs
 
--- src/asking.rt:72:5
 flush-requires : tie.Need-flush-requires Inv-loop μ-loop
 flush-requires c κs = search needs
 
--- src/asking.rt:50:1
 same-length : tie.Need-same-length Inv-loop μ-loop
 same-length c = search needs
 
--- src/asking.rt:50:1
 same-length-2 : tie.Need-same-length-2 Inv-loop μ-loop
 same-length-2 c = search needs
 
--- src/asking.rt:50:1
 returns : tie.Need-returns Inv-loop μ-loop
 returns c = search needs
 

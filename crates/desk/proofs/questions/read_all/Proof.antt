@@ -16,95 +16,72 @@ Inv-loop fd piece₀ line₀ numbers₀ turn₀ turns₀ t8 piece line numbers t
 abbrev μ-loop : tie.MeasureT-loop
 μ-loop fd piece₀ line₀ numbers₀ turn₀ turns₀ t8 piece line numbers turn turns = turns
 
--- src/questions.rt:156:5
 loop-holds : tie.Need-loop-holds Inv-loop μ-loop
 loop-holds c = search needs
 
--- src/questions.rt:157:9
 sub-turns : tie.Need-sub-turns Inv-loop μ-loop
 sub-turns c = search needs
 
--- src/questions.rt:158:37
 slice-aggregate-read-some : tie.Need-slice-aggregate-read-some Inv-loop μ-loop
 slice-aggregate-read-some c = search needs
 
--- src/questions.rt:158:15
 read-some-requires : tie.Need-read-some-requires Inv-loop μ-loop
 read-some-requires c κs = search needs
 
--- src/questions.rt:159:24
 enum-known-n : tie.Need-enum-known-n Inv-loop μ-loop
 enum-known-n c = search needs
 
--- src/questions.rt:160:41
 slice-reshare-prefix-take-piece : tie.Need-slice-reshare-prefix-take-piece Inv-loop μ-loop
 slice-reshare-prefix-take-piece c = let h : c .before .n .given .0 .0 ≤ length (c .before .before .before .before .before .read-some .last .1 .1 .0) = subst (λ (g : Got). Inside g (c .before .before .before .before .before .read-some .last .1 .1 .0)) (c .before .n .given .1) (c .before .before .before .before .before .read-some .ensures) in omega arith
 
--- src/questions.rt:160:41
 slice-aggregate-take-piece : tie.Need-slice-aggregate-take-piece Inv-loop μ-loop
 slice-aggregate-take-piece c = let h : c .before .before .n .given .0 .0 ≤ length (c .before .before .before .before .before .before .read-some .last .1 .1 .0) = subst (λ (g : Got). Inside g (c .before .before .before .before .before .before .read-some .last .1 .1 .0)) (c .before .before .n .given .1) (c .before .before .before .before .before .before .read-some .ensures) in simp length-take (omega arith)
 
--- src/questions.rt:160:17
 take-piece-requires : tie.Need-take-piece-requires Inv-loop μ-loop
 take-piece-requires c κs = search needs
 
--- src/questions.rt:156:5
 loop-less : tie.Need-loop-less Inv-loop μ-loop
 loop-less c = search needs
 
--- src/questions.rt:156:5
 loop-again : tie.Need-loop-again Inv-loop μ-loop
 loop-again c = search needs
 
--- src/questions.rt:163:17
 enum-told : tie.Need-enum-told Inv-loop μ-loop
 enum-told c = search needs
 
--- src/questions.rt:156:5
 loop-less-2 : tie.Need-loop-less-2 Inv-loop μ-loop
 loop-less-2 c = search needs
 
--- src/questions.rt:156:5
 loop-again-2 : tie.Need-loop-again-2 Inv-loop μ-loop
 loop-again-2 c = search needs
 
--- src/questions.rt:166:17
 enum-told-2 : tie.Need-enum-told-2 Inv-loop μ-loop
 enum-told-2 c = search needs
 
--- src/questions.rt:166:17
 same-length : tie.Need-same-length Inv-loop μ-loop
 same-length c = search needs
 
--- src/questions.rt:166:17
 same-length-2 : tie.Need-same-length-2 Inv-loop μ-loop
 same-length-2 c = search needs
 
--- src/questions.rt:166:17
 same-length-3 : tie.Need-same-length-3 Inv-loop μ-loop
 same-length-3 c = search needs
 
--- src/questions.rt:166:17
 returns : tie.Need-returns Inv-loop μ-loop
 returns c = search needs
 
--- src/questions.rt:170:5
 take-last-requires : tie.Need-take-last-requires Inv-loop μ-loop
 take-last-requires c κs = search needs
 
--- src/questions.rt:150:1
 same-length-4 : tie.Need-same-length-4 Inv-loop μ-loop
 same-length-4 c = search needs
 
--- src/questions.rt:150:1
 same-length-5 : tie.Need-same-length-5 Inv-loop μ-loop
 same-length-5 c = search needs
 
--- src/questions.rt:150:1
 same-length-6 : tie.Need-same-length-6 Inv-loop μ-loop
 same-length-6 c = search needs
 
--- src/questions.rt:150:1
 returns-2 : tie.Need-returns-2 Inv-loop μ-loop
 returns-2 c = search needs
 

@@ -12,43 +12,33 @@ Inv-loop piece line₀ numbers₀ held₀ question₀ from₀ line numbers held 
 abbrev μ-loop : tie.MeasureT-loop
 μ-loop piece line₀ numbers₀ held₀ question₀ from₀ line numbers held question from = length piece - from
 
--- src/questions.rt:125:5
 loop-holds : tie.Need-loop-holds Inv-loop μ-loop
 loop-holds c = search needs
 
--- src/questions.rt:126:13
 take-line-requires : tie.Need-take-line-requires Inv-loop μ-loop
 take-line-requires c κs = search needs
 
--- src/questions.rt:130:13
 take-held-requires : tie.Need-take-held-requires Inv-loop μ-loop
 take-held-requires c κs = search needs
 
--- src/questions.rt:125:5
 loop-less : tie.Need-loop-less Inv-loop μ-loop
 loop-less c = omega (arith, c .before .before .before .before .before .before .before .take-line .ensures .on (c .before .before .before .before .before .before .before .before .before .loop-test .taken))
 
--- src/questions.rt:125:5
 loop-again : tie.Need-loop-again Inv-loop μ-loop
 loop-again c = search needs
 
--- src/questions.rt:125:5
 loop-less-2 : tie.Need-loop-less-2 Inv-loop μ-loop
 loop-less-2 c = omega (arith, c .before .before .before .take-line .ensures .on (c .before .before .before .before .before .loop-test .taken))
 
--- src/questions.rt:125:5
 loop-again-2 : tie.Need-loop-again-2 Inv-loop μ-loop
 loop-again-2 c = search needs
 
--- src/questions.rt:121:1
 same-length : tie.Need-same-length Inv-loop μ-loop
 same-length c = search needs
 
--- src/questions.rt:121:1
 same-length-2 : tie.Need-same-length-2 Inv-loop μ-loop
 same-length-2 c = search needs
 
--- src/questions.rt:121:1
 returns : tie.Need-returns Inv-loop μ-loop
 returns c = search needs
 

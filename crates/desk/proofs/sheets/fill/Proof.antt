@@ -16,87 +16,66 @@ Inv-loop fd piece₀ bytes₀ n₀ turns₀ t7 piece bytes n turns = (n ≤ leng
 abbrev μ-loop : tie.MeasureT-loop
 μ-loop fd piece₀ bytes₀ n₀ turns₀ t7 piece bytes n turns = turns
 
--- src/sheets.rt:28:5
 loop-holds : tie.Need-loop-holds Inv-loop μ-loop
 loop-holds c = search needs
 
--- src/sheets.rt:29:9
 sub-turns : tie.Need-sub-turns Inv-loop μ-loop
 sub-turns c = search needs
 
--- src/sheets.rt:30:37
 slice-aggregate-read-some : tie.Need-slice-aggregate-read-some Inv-loop μ-loop
 slice-aggregate-read-some c = search needs
 
--- src/sheets.rt:30:15
 read-some-requires : tie.Need-read-some-requires Inv-loop μ-loop
 read-some-requires c κs = search needs
 
--- src/sheets.rt:31:24
 enum-known-more : tie.Need-enum-known-more Inv-loop μ-loop
 enum-known-more c = search needs
 
--- src/sheets.rt:32:36
 slice-reshare-prefix-put-text : tie.Need-slice-reshare-prefix-put-text Inv-loop μ-loop
 slice-reshare-prefix-put-text c = let h : c .before .more .given .0 .0 ≤ length (c .before .before .before .before .before .read-some .last .1 .1 .0) = subst (λ (g : Got). Inside g (c .before .before .before .before .before .read-some .last .1 .1 .0)) (c .before .more .given .1) (c .before .before .before .before .before .read-some .ensures) in omega arith
 
--- src/sheets.rt:32:36
 slice-aggregate-put-text : tie.Need-slice-aggregate-put-text Inv-loop μ-loop
 slice-aggregate-put-text c = let h : c .before .before .more .given .0 .0 ≤ length (c .before .before .before .before .before .before .read-some .last .1 .1 .0) = subst (λ (g : Got). Inside g (c .before .before .before .before .before .before .read-some .last .1 .1 .0)) (c .before .before .more .given .1) (c .before .before .before .before .before .before .read-some .ensures) in simp length-take (omega arith)
 
--- src/sheets.rt:32:17
 put-text-requires : tie.Need-put-text-requires Inv-loop μ-loop
 put-text-requires c κs = search needs
 
--- src/sheets.rt:33:17
 turns-left-requires : tie.Need-turns-left-requires Inv-loop μ-loop
 turns-left-requires c κs = search needs
 
--- src/sheets.rt:28:5
 loop-less : tie.Need-loop-less Inv-loop μ-loop
 loop-less c = search needs
 
--- src/sheets.rt:28:5
 loop-again : tie.Need-loop-again Inv-loop μ-loop
 loop-again c = search needs
 
--- src/sheets.rt:36:17
 enum-told : tie.Need-enum-told Inv-loop μ-loop
 enum-told c = search needs
 
--- src/sheets.rt:28:5
 loop-less-2 : tie.Need-loop-less-2 Inv-loop μ-loop
 loop-less-2 c = search needs
 
--- src/sheets.rt:28:5
 loop-again-2 : tie.Need-loop-again-2 Inv-loop μ-loop
 loop-again-2 c = search needs
 
--- src/sheets.rt:39:17
 enum-told-2 : tie.Need-enum-told-2 Inv-loop μ-loop
 enum-told-2 c = search needs
 
--- src/sheets.rt:39:17
 same-length : tie.Need-same-length Inv-loop μ-loop
 same-length c = search needs
 
--- src/sheets.rt:39:17
 same-length-2 : tie.Need-same-length-2 Inv-loop μ-loop
 same-length-2 c = search needs
 
--- src/sheets.rt:39:17
 returns : tie.Need-returns Inv-loop μ-loop
 returns c = search needs
 
--- src/sheets.rt:23:1
 same-length-3 : tie.Need-same-length-3 Inv-loop μ-loop
 same-length-3 c = search needs
 
--- src/sheets.rt:23:1
 same-length-4 : tie.Need-same-length-4 Inv-loop μ-loop
 same-length-4 c = search needs
 
--- src/sheets.rt:23:1
 returns-2 : tie.Need-returns-2 Inv-loop μ-loop
 returns-2 c = search needs
 

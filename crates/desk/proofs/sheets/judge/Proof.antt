@@ -3,35 +3,27 @@ use borrow.Author.Needs.{needs}
 use Rattle.desk.proofs.sheets.judge.Statement.{statement}
 use Rattle.desk.proofs.sheets.judge.Tie as tie
 
--- src/sheets.rt:48:11
 read-sheet-requires : tie.Need-read-sheet-requires
 read-sheet-requires c κs = search needs
 
--- src/sheets.rt:49:49
 enum-told : tie.Need-enum-told
 enum-told c = search needs
 
--- src/sheets.rt:49:30
 judge-sheet-requires : tie.Need-judge-sheet-requires
 judge-sheet-requires c κs = search needs
 
--- src/sheets.rt:50:30
 enum-known-refusal : tie.Need-enum-known-refusal
 enum-known-refusal c = search needs
 
--- src/sheets.rt:45:1
 same-length : tie.Need-same-length
 same-length c = search needs
 
--- src/sheets.rt:45:1
 returns : tie.Need-returns
 returns c = judged-of (c .before .before .before .before .before .before .read-sheet .last .1 .0) (c .judge-sheet .result) (c .judge-sheet .ensures)
 
--- src/sheets.rt:45:1
 same-length-2 : tie.Need-same-length-2
 same-length-2 c = search needs
 
--- src/sheets.rt:45:1
 returns-2 : tie.Need-returns-2
 returns-2 c = search needs
 

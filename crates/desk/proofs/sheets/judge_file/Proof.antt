@@ -8,55 +8,42 @@ use borrow.Author.Needs.{needs}
 use Rattle.desk.proofs.sheets.judge_file.Statement.{statement}
 use Rattle.desk.proofs.sheets.judge_file.Tie as tie
 
--- src/sheets.rt:67:21
 large-buffer-requires : tie.Need-large-buffer-requires
 large-buffer-requires c κs = search needs
 
--- src/sheets.rt:68:21
 large-buffer-requires-2 : tie.Need-large-buffer-requires-2
 large-buffer-requires-2 c κs = search needs
 
--- src/sheets.rt:69:20
 slice-aggregate-fill : tie.Need-slice-aggregate-fill
 slice-aggregate-fill c = search needs
 
--- src/sheets.rt:69:32
 slice-aggregate-fill-2 : tie.Need-slice-aggregate-fill-2
 slice-aggregate-fill-2 c = search needs
 
--- src/sheets.rt:69:11
 fill-requires : tie.Need-fill-requires
 fill-requires c κs = search needs
 
--- src/sheets.rt:70:21
 enum-known-n : tie.Need-enum-known-n
 enum-known-n c = search needs
 
--- src/sheets.rt:70:45
 array-share-prefix-bytes : tie.Need-array-share-prefix-bytes
 array-share-prefix-bytes c = let h : c .before .n .given .0 .0 ≤ length (c .before .before .before .before .before .fill .last .1 .1 .0) = subst (λ (x : Text). Filled x (c .before .before .before .before .before .fill .last .1 .1 .0)) (c .before .n .given .1) (c .before .before .before .before .before .fill .ensures) in h
 
--- src/sheets.rt:70:45
 slice-aggregate-judge : tie.Need-slice-aggregate-judge
 slice-aggregate-judge c = let h : c .before .before .n .given .0 .0 ≤ length (c .before .before .before .before .before .before .fill .last .1 .1 .0) = subst (λ (x : Text). Filled x (c .before .before .before .before .before .before .fill .last .1 .1 .0)) (c .before .before .n .given .1) (c .before .before .before .before .before .before .fill .ensures) in simp length-take (omega arith)
 
--- src/sheets.rt:70:39
 judge-requires : tie.Need-judge-requires
 judge-requires c κs = search needs
 
--- src/sheets.rt:71:25
 enum-told : tie.Need-enum-told
 enum-told c = search needs
 
--- src/sheets.rt:64:1
 same-length : tie.Need-same-length
 same-length c = search needs
 
--- src/sheets.rt:64:1
 returns : tie.Need-returns
 returns c = search needs
 
--- src/sheets.rt:64:1
 returns-2 : tie.Need-returns-2
 returns-2 c = search needs
 

@@ -7,19 +7,15 @@ use Rattle.gas.specs.Heat.{specificContent}
 use Rattle.gas.proofs.inner.specific_at.Statement.{statement}
 use Rattle.gas.proofs.inner.specific_at.Tie as tie
 
--- src/inner.rt:134:9
 content-at-requires : tie.Need-content-at-requires
 content-at-requires c κs = search needs
 
--- src/inner.rt:135:33
 total-mass-requires : tie.Need-total-mass-requires
 total-mass-requires c κs = search needs
 
--- src/inner.rt:135:5
 quotient-requires : tie.Need-quotient-requires
 quotient-requires c κs = search needs
 
--- src/inner.rt:130:1
 returns : tie.Need-returns
 unfolding specificContent
 returns c =

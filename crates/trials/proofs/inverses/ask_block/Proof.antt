@@ -9,31 +9,24 @@ Inv-loop inverse first apart count sheet block₀ target₀ i₀ block target i 
 abbrev μ-loop : tie.MeasureT-loop
 μ-loop inverse first apart count sheet block₀ target₀ i₀ block target i = count - i
 
--- src/inverses.rt:144:5
 loop-holds : tie.Need-loop-holds Inv-loop μ-loop
 loop-holds c = search needs
 
--- src/inverses.rt:145:9
 asked-requires : tie.Need-asked-requires Inv-loop μ-loop
 asked-requires c κs = search needs
 
--- src/inverses.rt:146:9
 further-requires : tie.Need-further-requires Inv-loop μ-loop
 further-requires c κs = search needs
 
--- src/inverses.rt:147:9
 add-i : tie.Need-add-i Inv-loop μ-loop
 add-i c = search needs
 
--- src/inverses.rt:144:5
 loop-less : tie.Need-loop-less Inv-loop μ-loop
 loop-less c = search needs
 
--- src/inverses.rt:144:5
 loop-again : tie.Need-loop-again Inv-loop μ-loop
 loop-again c = search needs
 
--- src/inverses.rt:136:1
 returns : tie.Need-returns Inv-loop μ-loop
 returns c = search needs
 

@@ -7,23 +7,18 @@ use borrow.Author.Needs.{needs}
 use Rattle.trials.proofs.inverses.further.Statement.{statement}
 use Rattle.trials.proofs.inverses.further.Tie as tie
 
--- src/inverses.rt:90:9
 inside-requires : tie.Need-inside-requires
 inside-requires c κs = search needs
 
--- src/inverses.rt:91:9
 returns : tie.Need-returns
 returns c = search needs
 
--- src/inverses.rt:93:9
 inside-requires-2 : tie.Need-inside-requires-2
 inside-requires-2 c κs = search needs
 
--- src/inverses.rt:94:9
 returns-2 : tie.Need-returns-2
 returns-2 c = search needs
 
--- src/inverses.rt:96:5
 add-result : tie.Need-add-result
 add-result c =
     let t = in-range (negsuc 3999999999999999999) (pos 4000000000000000000) (c .before .before .before .before .args .target) (sym (in-plain (negsuc 3999999999999999999) (pos 4000000000000000000) (c .before .before .before .before .fits .target) (c .before .before .before .inside .ensures)) ∙ not-false _ (c .before .before .if1 .left)) in
@@ -33,7 +28,6 @@ add-result c =
     (omega (zed, t .most, a .most, apart (c .before .before .before .before .args .target), apart (c .before .before .before .before .args .apart)))
     (omega (zed, t .least, a .least, apart (c .before .before .before .before .args .target), apart (c .before .before .before .before .args .apart))))
 
--- src/inverses.rt:89:1
 returns-3 : tie.Need-returns-3
 returns-3 c = search needs
 

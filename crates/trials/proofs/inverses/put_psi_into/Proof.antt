@@ -4,35 +4,27 @@ use borrow.Author.Needs.{needs}
 use Rattle.trials.proofs.inverses.put_psi_into.Statement.{statement}
 use Rattle.trials.proofs.inverses.put_psi_into.Tie as tie
 
--- src/inverses.rt:68:28
 number-at-requires : tie.Need-number-at-requires
 number-at-requires c κs = search needs
 
--- src/inverses.rt:68:9
 bounded-requires : tie.Need-bounded-requires
 bounded-requires c κs = search needs
 
--- src/inverses.rt:69:13
 number-at-requires-2 : tie.Need-number-at-requires-2
 number-at-requires-2 c κs = search needs
 
--- src/inverses.rt:69:43
 array-borrow-prefix-list : tie.Need-array-borrow-prefix-list
 array-borrow-prefix-list c = search needs
 
--- src/inverses.rt:69:43
 slice-aggregate-put-psi : tie.Need-slice-aggregate-put-psi
 slice-aggregate-put-psi c = simp length-take (omega arith)
 
--- src/inverses.rt:69:5
 put-psi-requires : tie.Need-put-psi-requires
 put-psi-requires c κs = search needs
 
--- src/inverses.rt:66:1
 same-length : tie.Need-same-length
 same-length c = search needs
 
--- src/inverses.rt:66:1
 returns : tie.Need-returns
 returns c = search needs
 

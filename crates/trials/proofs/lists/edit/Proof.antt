@@ -11,39 +11,30 @@ Inv-loop list₀ place count value i₀ list i = length list ≡ length list₀
 abbrev μ-loop : tie.MeasureT-loop
 μ-loop list₀ place count value i₀ list i = count - i
 
--- src/lists.rt:132:5
 loop-holds : tie.Need-loop-holds Inv-loop μ-loop
 loop-holds c = search needs
 
--- src/lists.rt:133:29
 mul-store : tie.Need-mul-store Inv-loop μ-loop
 mul-store c = search needs
 
--- src/lists.rt:133:21
 add-store : tie.Need-add-store Inv-loop μ-loop
 add-store c = search needs
 
--- src/lists.rt:133:9
 store-requires : tie.Need-store-requires Inv-loop μ-loop
 store-requires c κs = search needs
 
--- src/lists.rt:134:9
 add-i : tie.Need-add-i Inv-loop μ-loop
 add-i c = search needs
 
--- src/lists.rt:132:5
 loop-less : tie.Need-loop-less Inv-loop μ-loop
 loop-less c = search needs
 
--- src/lists.rt:132:5
 loop-again : tie.Need-loop-again Inv-loop μ-loop
 loop-again c = search needs
 
--- src/lists.rt:128:1
 same-length : tie.Need-same-length Inv-loop μ-loop
 same-length c = search needs
 
--- src/lists.rt:128:1
 returns : tie.Need-returns Inv-loop μ-loop
 returns c = search needs
 

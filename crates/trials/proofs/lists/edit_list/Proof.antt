@@ -11,71 +11,54 @@ Inv-loop list₀ numbers from i₀ list i = length list ≡ length list₀
 abbrev μ-loop : tie.MeasureT-loop
 μ-loop list₀ numbers from i₀ list i = length numbers - i
 
--- src/lists.rt:141:5
 loop-holds : tie.Need-loop-holds Inv-loop μ-loop
 loop-holds c = search needs
 
--- src/lists.rt:142:29
 mul-bounded : tie.Need-mul-bounded Inv-loop μ-loop
 mul-bounded c = search needs
 
--- src/lists.rt:142:29
 shared-slice-copy-out-bounded : tie.Need-shared-slice-copy-out-bounded Inv-loop μ-loop
 shared-slice-copy-out-bounded c = search needs
 
--- src/lists.rt:142:13
 bounded-requires : tie.Need-bounded-requires Inv-loop μ-loop
 bounded-requires c κs = search needs
 
--- src/lists.rt:143:48
 add-number-at : tie.Need-add-number-at Inv-loop μ-loop
 add-number-at c = search needs
 
--- src/lists.rt:143:29
 number-at-requires : tie.Need-number-at-requires Inv-loop μ-loop
 number-at-requires c κs = search needs
 
--- src/lists.rt:143:13
 bounded-requires-2 : tie.Need-bounded-requires-2 Inv-loop μ-loop
 bounded-requires-2 c κs = search needs
 
--- src/lists.rt:144:58
 add-number-at-2 : tie.Need-add-number-at-2 Inv-loop μ-loop
 add-number-at-2 c = search needs
 
--- src/lists.rt:144:39
 number-at-requires-2 : tie.Need-number-at-requires-2 Inv-loop μ-loop
 number-at-requires-2 c κs = search needs
 
--- src/lists.rt:144:28
 size-requires : tie.Need-size-requires Inv-loop μ-loop
 size-requires c κs = search needs
 
--- src/lists.rt:144:13
 narrow-requires : tie.Need-narrow-requires Inv-loop μ-loop
 narrow-requires c κs = search needs
 
--- src/lists.rt:145:9
 edit-requires : tie.Need-edit-requires Inv-loop μ-loop
 edit-requires c κs = search needs
 
--- src/lists.rt:146:9
 add-i : tie.Need-add-i Inv-loop μ-loop
 add-i c = search needs
 
--- src/lists.rt:141:5
 loop-less : tie.Need-loop-less Inv-loop μ-loop
 loop-less c = search needs
 
--- src/lists.rt:141:5
 loop-again : tie.Need-loop-again Inv-loop μ-loop
 loop-again c = search needs
 
--- src/lists.rt:139:1
 same-length : tie.Need-same-length Inv-loop μ-loop
 same-length c = search needs
 
--- src/lists.rt:139:1
 returns : tie.Need-returns Inv-loop μ-loop
 returns c = search needs
 

@@ -11,31 +11,24 @@ Inv-loop list₀ n value i₀ list i = length list ≡ length list₀
 abbrev μ-loop : tie.MeasureT-loop
 μ-loop list₀ n value i₀ list i = n - i
 
--- src/lists.rt:79:5
 loop-holds : tie.Need-loop-holds Inv-loop μ-loop
 loop-holds c = search needs
 
--- src/lists.rt:80:9
 store-requires : tie.Need-store-requires Inv-loop μ-loop
 store-requires c κs = search needs
 
--- src/lists.rt:81:9
 add-i : tie.Need-add-i Inv-loop μ-loop
 add-i c = search needs
 
--- src/lists.rt:79:5
 loop-less : tie.Need-loop-less Inv-loop μ-loop
 loop-less c = search needs
 
--- src/lists.rt:79:5
 loop-again : tie.Need-loop-again Inv-loop μ-loop
 loop-again c = search needs
 
--- src/lists.rt:77:1
 same-length : tie.Need-same-length Inv-loop μ-loop
 same-length c = search needs
 
--- src/lists.rt:77:1
 returns : tie.Need-returns Inv-loop μ-loop
 returns c = search needs
 

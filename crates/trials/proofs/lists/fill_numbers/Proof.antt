@@ -11,43 +11,33 @@ Inv-loop list₀ i₀ list i = length list ≡ length list₀
 abbrev μ-loop : tie.MeasureT-loop
 μ-loop list₀ i₀ list i = length list₀ - i
 
--- src/lists.rt:72:5
 loop-holds : tie.Need-loop-holds Inv-loop μ-loop
 loop-holds c = search needs
 
--- src/lists.rt:73:34
 add-of-u64 : tie.Need-add-of-u64 Inv-loop μ-loop
 add-of-u64 c = search needs
 
--- src/lists.rt:73:19
 of-u64-requires : tie.Need-of-u64-requires Inv-loop μ-loop
 of-u64-requires c κs = search needs
 
--- src/lists.rt:73:9
 mul-t8 : tie.Need-mul-t8 Inv-loop μ-loop
 mul-t8 c = search needs
 
--- src/lists.rt:73:9
 slice-set-from-list : tie.Need-slice-set-from-list Inv-loop μ-loop
 slice-set-from-list c = search needs
 
--- src/lists.rt:74:9
 add-i : tie.Need-add-i Inv-loop μ-loop
 add-i c = search needs
 
--- src/lists.rt:72:5
 loop-less : tie.Need-loop-less Inv-loop μ-loop
 loop-less c = search needs
 
--- src/lists.rt:72:5
 loop-again : tie.Need-loop-again Inv-loop μ-loop
 loop-again c = search needs
 
--- src/lists.rt:70:1
 same-length : tie.Need-same-length Inv-loop μ-loop
 same-length c = search needs
 
--- src/lists.rt:70:1
 returns : tie.Need-returns Inv-loop μ-loop
 returns c = search needs
 

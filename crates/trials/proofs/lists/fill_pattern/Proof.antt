@@ -11,43 +11,33 @@ Inv-loop list₀ i₀ list i = length list ≡ length list₀
 abbrev μ-loop : tie.MeasureT-loop
 μ-loop list₀ i₀ list i = length list₀ - i
 
--- src/lists.rt:63:5
 loop-holds : tie.Need-loop-holds Inv-loop μ-loop
 loop-holds c = search needs
 
--- src/lists.rt:64:31
 cast-list : tie.Need-cast-list Inv-loop μ-loop
 cast-list c = search needs
 
--- src/lists.rt:64:19
 add-list : tie.Need-add-list Inv-loop μ-loop
 add-list c = search needs
 
--- src/lists.rt:64:9
 mul-list : tie.Need-mul-list Inv-loop μ-loop
 mul-list c = search needs
 
--- src/lists.rt:64:9
 slice-write-list : tie.Need-slice-write-list Inv-loop μ-loop
 slice-write-list c = search needs
 
--- src/lists.rt:65:9
 add-i : tie.Need-add-i Inv-loop μ-loop
 add-i c = search needs
 
--- src/lists.rt:63:5
 loop-less : tie.Need-loop-less Inv-loop μ-loop
 loop-less c = search needs
 
--- src/lists.rt:63:5
 loop-again : tie.Need-loop-again Inv-loop μ-loop
 loop-again c = search needs
 
--- src/lists.rt:61:1
 same-length : tie.Need-same-length Inv-loop μ-loop
 same-length c = search needs
 
--- src/lists.rt:61:1
 returns : tie.Need-returns Inv-loop μ-loop
 returns c = search needs
 

@@ -11,63 +11,48 @@ Inv-loop list₀ air row₀ list row = (length list ≡ length list₀) × (row 
 abbrev μ-loop : tie.MeasureT-loop
 μ-loop list₀ air row₀ list row = 1801 - row
 
--- src/lists.rt:96:15
 heat-column-requires : tie.Need-heat-column-requires Inv-loop μ-loop
 heat-column-requires c κs = search needs
 
--- src/lists.rt:98:5
 loop-holds : tie.Need-loop-holds Inv-loop μ-loop
 loop-holds c = search needs
 
--- src/lists.rt:99:44
 add-figure : tie.Need-add-figure Inv-loop μ-loop
 add-figure c = search needs
 
--- src/lists.rt:99:25
 figure-requires : tie.Need-figure-requires Inv-loop μ-loop
 figure-requires c κs = search needs
 
--- src/lists.rt:99:56
 figure-requires-2 : tie.Need-figure-requires-2 Inv-loop μ-loop
 figure-requires-2 c κs = search needs
 
--- src/lists.rt:99:13
 over-requires : tie.Need-over-requires Inv-loop μ-loop
 over-requires c κs = search needs
 
--- src/lists.rt:100:22
 mul-store : tie.Need-mul-store Inv-loop μ-loop
 mul-store c = search needs
 
--- src/lists.rt:100:48
 mul-narrow : tie.Need-mul-narrow Inv-loop μ-loop
 mul-narrow c = search needs
 
--- src/lists.rt:100:41
 narrow-requires : tie.Need-narrow-requires Inv-loop μ-loop
 narrow-requires c κs = search needs
 
--- src/lists.rt:100:9
 store-requires : tie.Need-store-requires Inv-loop μ-loop
 store-requires c κs = search needs
 
--- src/lists.rt:101:9
 add-row : tie.Need-add-row Inv-loop μ-loop
 add-row c = search needs
 
--- src/lists.rt:98:5
 loop-less : tie.Need-loop-less Inv-loop μ-loop
 loop-less c = search needs
 
--- src/lists.rt:98:5
 loop-again : tie.Need-loop-again Inv-loop μ-loop
 loop-again c = search needs
 
--- src/lists.rt:95:1
 same-length : tie.Need-same-length Inv-loop μ-loop
 same-length c = search needs
 
--- src/lists.rt:95:1
 returns : tie.Need-returns Inv-loop μ-loop
 returns c = search needs
 

@@ -11,47 +11,36 @@ Inv-loop numbers from buf₀ at next₀ i₀ buf next i = length buf ≡ length 
 abbrev μ-loop : tie.MeasureT-loop
 μ-loop numbers from buf₀ at next₀ i₀ buf next i = length numbers - i
 
--- src/lists.rt:186:5
 loop-holds : tie.Need-loop-holds Inv-loop μ-loop
 loop-holds c = search needs
 
--- src/lists.rt:187:39
 mul-bounded : tie.Need-mul-bounded Inv-loop μ-loop
 mul-bounded c = search needs
 
--- src/lists.rt:187:39
 shared-slice-copy-out-bounded : tie.Need-shared-slice-copy-out-bounded Inv-loop μ-loop
 shared-slice-copy-out-bounded c = search needs
 
--- src/lists.rt:187:31
 bounded-requires : tie.Need-bounded-requires Inv-loop μ-loop
 bounded-requires c κs = search needs
 
--- src/lists.rt:187:31
 cast-put-byte : tie.Need-cast-put-byte Inv-loop μ-loop
 cast-put-byte c = search needs
 
--- src/lists.rt:187:9
 put-byte-requires : tie.Need-put-byte-requires Inv-loop μ-loop
 put-byte-requires c κs = search needs
 
--- src/lists.rt:188:9
 add-i : tie.Need-add-i Inv-loop μ-loop
 add-i c = search needs
 
--- src/lists.rt:186:5
 loop-less : tie.Need-loop-less Inv-loop μ-loop
 loop-less c = search needs
 
--- src/lists.rt:186:5
 loop-again : tie.Need-loop-again Inv-loop μ-loop
 loop-again c = search needs
 
--- src/lists.rt:183:1
 same-length : tie.Need-same-length Inv-loop μ-loop
 same-length c = search needs
 
--- src/lists.rt:183:1
 returns : tie.Need-returns Inv-loop μ-loop
 returns c = search needs
 

@@ -11,31 +11,24 @@ Inv-loop list buf₀ at₀ row₀ buf at row = (length buf ≡ length buf₀) ×
 abbrev μ-loop : tie.MeasureT-loop
 μ-loop list buf₀ at₀ row₀ buf at row = 1801 - row
 
--- src/lists.rt:165:5
 loop-holds : tie.Need-loop-holds Inv-loop μ-loop
 loop-holds c = search needs
 
--- src/lists.rt:166:9
 put-row-requires : tie.Need-put-row-requires Inv-loop μ-loop
 put-row-requires c κs = search needs
 
--- src/lists.rt:167:9
 add-row : tie.Need-add-row Inv-loop μ-loop
 add-row c = search needs
 
--- src/lists.rt:165:5
 loop-less : tie.Need-loop-less Inv-loop μ-loop
 loop-less c = search needs
 
--- src/lists.rt:165:5
 loop-again : tie.Need-loop-again Inv-loop μ-loop
 loop-again c = search needs
 
--- src/lists.rt:162:1
 same-length : tie.Need-same-length Inv-loop μ-loop
 same-length c = search needs
 
--- src/lists.rt:162:1
 returns : tie.Need-returns Inv-loop μ-loop
 returns c = search needs
 

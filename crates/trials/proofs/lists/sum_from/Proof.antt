@@ -10,39 +10,30 @@ Inv-loop sum list s₀ i₀ s i = Unit {0}
 abbrev μ-loop : tie.MeasureT-loop
 μ-loop sum list s₀ i₀ s i = length list - i
 
--- src/lists.rt:53:5
 loop-holds : tie.Need-loop-holds Inv-loop μ-loop
 loop-holds c = search needs
 
--- src/lists.rt:54:29
 mul-wide : tie.Need-mul-wide Inv-loop μ-loop
 mul-wide c = search needs
 
--- src/lists.rt:54:29
 shared-slice-read-wide : tie.Need-shared-slice-read-wide Inv-loop μ-loop
 shared-slice-read-wide c = search needs
 
--- src/lists.rt:54:24
 wide-requires : tie.Need-wide-requires Inv-loop μ-loop
 wide-requires c κs = search needs
 
--- src/lists.rt:54:9
 take-on-requires : tie.Need-take-on-requires Inv-loop μ-loop
 take-on-requires c κs = search needs
 
--- src/lists.rt:55:9
 add-i : tie.Need-add-i Inv-loop μ-loop
 add-i c = search needs
 
--- src/lists.rt:53:5
 loop-less : tie.Need-loop-less Inv-loop μ-loop
 loop-less c = search needs
 
--- src/lists.rt:53:5
 loop-again : tie.Need-loop-again Inv-loop μ-loop
 loop-again c = search needs
 
--- src/lists.rt:50:1
 returns : tie.Need-returns Inv-loop μ-loop
 returns c = search needs
 

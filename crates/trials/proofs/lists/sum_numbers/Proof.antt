@@ -10,39 +10,30 @@ Inv-loop list s₀ i₀ s i = Unit {0}
 abbrev μ-loop : tie.MeasureT-loop
 μ-loop list s₀ i₀ s i = length list - i
 
--- src/lists.rt:82:5
 loop-holds : tie.Need-loop-holds Inv-loop μ-loop
 loop-holds c = search needs
 
--- src/lists.rt:83:35
 mul-size : tie.Need-mul-size Inv-loop μ-loop
 mul-size c = search needs
 
--- src/lists.rt:83:35
 shared-slice-copy-out-size : tie.Need-shared-slice-copy-out-size Inv-loop μ-loop
 shared-slice-copy-out-size c = search needs
 
--- src/lists.rt:83:24
 size-requires : tie.Need-size-requires Inv-loop μ-loop
 size-requires c κs = search needs
 
--- src/lists.rt:83:9
 take-on-requires : tie.Need-take-on-requires Inv-loop μ-loop
 take-on-requires c κs = search needs
 
--- src/lists.rt:84:9
 add-i : tie.Need-add-i Inv-loop μ-loop
 add-i c = search needs
 
--- src/lists.rt:82:5
 loop-less : tie.Need-loop-less Inv-loop μ-loop
 loop-less c = search needs
 
--- src/lists.rt:82:5
 loop-again : tie.Need-loop-again Inv-loop μ-loop
 loop-again c = search needs
 
--- src/lists.rt:79:1
 returns : tie.Need-returns Inv-loop μ-loop
 returns c = search needs
 

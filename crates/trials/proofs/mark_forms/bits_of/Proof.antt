@@ -3,15 +3,12 @@ use Rattle.marking.specs.MarkingLaws.{no-nan}
 use Rattle.trials.proofs.mark_forms.bits_of.Statement.{statement}
 use Rattle.trials.proofs.mark_forms.bits_of.Tie as tie
 
--- src/mark_forms.rt:15:9
 returns : tie.Need-returns
 returns c = search needs
 
--- src/mark_forms.rt:17:5
 float-to-bits-result : tie.Need-float-to-bits-result
 float-to-bits-result c = no-nan (c .before .args .x) (c .if1 .left)
 
--- src/mark_forms.rt:13:1
 returns-2 : tie.Need-returns-2
 returns-2 c = search needs
 

@@ -9,31 +9,24 @@ Inv-loop grid tally₀ bits₀ i₀ tally bits i = Unit {0}
 abbrev μ-loop : tie.MeasureT-loop
 μ-loop grid tally₀ bits₀ i₀ tally bits i = grid .floats - i
 
--- src/mark_forms.rt:148:5
 loop-holds : tie.Need-loop-holds Inv-loop μ-loop
 loop-holds c = search needs
 
--- src/mark_forms.rt:149:9
 mark-keys-requires : tie.Need-mark-keys-requires Inv-loop μ-loop
 mark-keys-requires c κs = search needs
 
--- src/mark_forms.rt:150:9
 wrapping-add-u64-requires : tie.Need-wrapping-add-u64-requires Inv-loop μ-loop
 wrapping-add-u64-requires c κs = search needs
 
--- src/mark_forms.rt:151:9
 add-i : tie.Need-add-i Inv-loop μ-loop
 add-i c = search needs
 
--- src/mark_forms.rt:148:5
 loop-less : tie.Need-loop-less Inv-loop μ-loop
 loop-less c = search needs
 
--- src/mark_forms.rt:148:5
 loop-again : tie.Need-loop-again Inv-loop μ-loop
 loop-again c = search needs
 
--- src/mark_forms.rt:139:1
 returns : tie.Need-returns Inv-loop μ-loop
 returns c = search needs
 

@@ -4,59 +4,45 @@ use borrow.Author.Needs.{needs}
 use Rattle.trials.proofs.sheet_forms.put_edited.Statement.{statement}
 use Rattle.trials.proofs.sheet_forms.put_edited.Tie as tie
 
--- src/sheet_forms.rt:38:31
 number-at-requires : tie.Need-number-at-requires
 number-at-requires c κs = search needs
 
--- src/sheet_forms.rt:38:9
 bounded-requires : tie.Need-bounded-requires
 bounded-requires c κs = search needs
 
--- src/sheet_forms.rt:39:31
 number-at-requires-2 : tie.Need-number-at-requires-2
 number-at-requires-2 c κs = search needs
 
--- src/sheet_forms.rt:39:61
 sub-bounded : tie.Need-sub-bounded
 sub-bounded c = search needs
 
--- src/sheet_forms.rt:39:9
 bounded-requires-2 : tie.Need-bounded-requires-2
 bounded-requires-2 c κs = search needs
 
--- src/sheet_forms.rt:40:61
 slice-aggregate-put-edited : tie.Need-slice-aggregate-put-edited
 slice-aggregate-put-edited c = search needs
 
--- src/sheet_forms.rt:40:9
 put-edited-requires : tie.Need-put-edited-requires
 put-edited-requires c κs = search needs
 
--- src/sheet_forms.rt:41:9
 least-requires : tie.Need-least-requires
 least-requires c κs = search needs
 
--- src/sheet_forms.rt:42:14
 array-share-prefix-edited : tie.Need-array-share-prefix-edited
 array-share-prefix-edited c = search needs
 
--- src/sheet_forms.rt:42:14
 slice-aggregate-put-read : tie.Need-slice-aggregate-put-read
 slice-aggregate-put-read c = simp length-take (omega arith)
 
--- src/sheet_forms.rt:42:5
 put-read-requires : tie.Need-put-read-requires
 put-read-requires c κs = search needs
 
--- src/sheet_forms.rt:36:1
 same-length : tie.Need-same-length
 same-length c = search needs
 
--- src/sheet_forms.rt:36:1
 same-length-2 : tie.Need-same-length-2
 same-length-2 c = search needs
 
--- src/sheet_forms.rt:36:1
 returns : tie.Need-returns
 returns c = search needs
 

@@ -4,31 +4,24 @@ use borrow.Author.Needs.{needs}
 use Rattle.trials.proofs.sheet_forms.put_list.Statement.{statement}
 use Rattle.trials.proofs.sheet_forms.put_list.Tie as tie
 
--- src/sheet_forms.rt:23:28
 number-at-requires : tie.Need-number-at-requires
 number-at-requires c κs = search needs
 
--- src/sheet_forms.rt:23:9
 bounded-requires : tie.Need-bounded-requires
 bounded-requires c κs = search needs
 
--- src/sheet_forms.rt:24:25
 array-borrow-prefix-list : tie.Need-array-borrow-prefix-list
 array-borrow-prefix-list c = search needs
 
--- src/sheet_forms.rt:24:25
 slice-aggregate-put-judged : tie.Need-slice-aggregate-put-judged
 slice-aggregate-put-judged c = simp length-take (omega arith)
 
--- src/sheet_forms.rt:24:5
 put-judged-requires : tie.Need-put-judged-requires
 put-judged-requires c κs = search needs
 
--- src/sheet_forms.rt:21:1
 same-length : tie.Need-same-length
 same-length c = search needs
 
--- src/sheet_forms.rt:21:1
 returns : tie.Need-returns
 returns c = search needs
 

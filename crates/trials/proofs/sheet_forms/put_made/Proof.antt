@@ -4,43 +4,33 @@ use borrow.Author.Needs.{needs}
 use Rattle.trials.proofs.sheet_forms.put_made.Statement.{statement}
 use Rattle.trials.proofs.sheet_forms.put_made.Tie as tie
 
--- src/sheet_forms.rt:48:33
 number-at-requires : tie.Need-number-at-requires
 number-at-requires c κs = search needs
 
--- src/sheet_forms.rt:48:63
 slice-aggregate-make-text : tie.Need-slice-aggregate-make-text
 slice-aggregate-make-text c = search needs
 
--- src/sheet_forms.rt:48:9
 make-text-requires : tie.Need-make-text-requires
 make-text-requires c κs = search needs
 
--- src/sheet_forms.rt:49:9
 least-requires : tie.Need-least-requires
 least-requires c κs = search needs
 
--- src/sheet_forms.rt:50:16
 array-share-prefix-base : tie.Need-array-share-prefix-base
 array-share-prefix-base c = search needs
 
--- src/sheet_forms.rt:50:16
 slice-aggregate-put-edited : tie.Need-slice-aggregate-put-edited
 slice-aggregate-put-edited c = simp length-take (omega arith)
 
--- src/sheet_forms.rt:50:5
 put-edited-requires : tie.Need-put-edited-requires
 put-edited-requires c κs = search needs
 
--- src/sheet_forms.rt:46:1
 same-length : tie.Need-same-length
 same-length c = search needs
 
--- src/sheet_forms.rt:46:1
 same-length-2 : tie.Need-same-length-2
 same-length-2 c = search needs
 
--- src/sheet_forms.rt:46:1
 returns : tie.Need-returns
 returns c = search needs
 

@@ -4,31 +4,24 @@ use borrow.Author.Needs.{needs}
 use Rattle.trials.proofs.sheet_forms.put_text.Statement.{statement}
 use Rattle.trials.proofs.sheet_forms.put_text.Tie as tie
 
--- src/sheet_forms.rt:56:28
 number-at-requires : tie.Need-number-at-requires
 number-at-requires c κs = search needs
 
--- src/sheet_forms.rt:56:9
 bounded-requires : tie.Need-bounded-requires
 bounded-requires c κs = search needs
 
--- src/sheet_forms.rt:57:23
 array-borrow-prefix-list : tie.Need-array-borrow-prefix-list
 array-borrow-prefix-list c = search needs
 
--- src/sheet_forms.rt:57:23
 slice-aggregate-put-made : tie.Need-slice-aggregate-put-made
 slice-aggregate-put-made c = simp length-take (omega arith)
 
--- src/sheet_forms.rt:57:5
 put-made-requires : tie.Need-put-made-requires
 put-made-requires c κs = search needs
 
--- src/sheet_forms.rt:54:1
 same-length : tie.Need-same-length
 same-length c = search needs
 
--- src/sheet_forms.rt:54:1
 returns : tie.Need-returns
 returns c = search needs
 

@@ -4,91 +4,69 @@ use borrow.Author.Needs.{needs}
 use Rattle.trials.proofs.walk_forms.put_walk_into.Statement.{statement}
 use Rattle.trials.proofs.walk_forms.put_walk_into.Tie as tie
 
--- src/walk_forms.rt:63:28
 number-at-requires : tie.Need-number-at-requires
 number-at-requires c κs = search needs
 
--- src/walk_forms.rt:63:9
 bounded-requires : tie.Need-bounded-requires
 bounded-requires c κs = search needs
 
--- src/walk_forms.rt:64:28
 number-at-requires-2 : tie.Need-number-at-requires-2
 number-at-requires-2 c κs = search needs
 
--- src/walk_forms.rt:64:9
 bounded-requires-2 : tie.Need-bounded-requires-2
 bounded-requires-2 c κs = search needs
 
--- src/walk_forms.rt:65:28
 number-at-requires-3 : tie.Need-number-at-requires-3
 number-at-requires-3 c κs = search needs
 
--- src/walk_forms.rt:65:9
 bounded-requires-3 : tie.Need-bounded-requires-3
 bounded-requires-3 c κs = search needs
 
--- src/walk_forms.rt:66:9
 least-requires : tie.Need-least-requires
 least-requires c κs = search needs
 
--- src/walk_forms.rt:68:9
 charge-at-requires : tie.Need-charge-at-requires
 charge-at-requires c κs = search needs
 
--- src/walk_forms.rt:69:21
 number-at-requires-4 : tie.Need-number-at-requires-4
 number-at-requires-4 c κs = search needs
 
--- src/walk_forms.rt:70:9
 mul-put-walk : tie.Need-mul-put-walk
 mul-put-walk c = search needs
 
--- src/walk_forms.rt:70:9
 sub-put-walk : tie.Need-sub-put-walk
 sub-put-walk c = search needs
 
--- src/walk_forms.rt:70:9
 part-put-walk-start : tie.Need-part-put-walk-start
 part-put-walk-start c = search needs
 
--- src/walk_forms.rt:70:9
 part-put-walk-end : tie.Need-part-put-walk-end
 part-put-walk-end c = search needs
 
--- src/walk_forms.rt:71:9
 array-borrow-prefix-temperatures : tie.Need-array-borrow-prefix-temperatures
 array-borrow-prefix-temperatures c = search needs
 
--- src/walk_forms.rt:71:9
 slice-aggregate-put-walk : tie.Need-slice-aggregate-put-walk
 slice-aggregate-put-walk c = simp length-take (omega arith)
 
--- src/walk_forms.rt:72:9
 array-borrow-prefix-rests : tie.Need-array-borrow-prefix-rests
 array-borrow-prefix-rests c = search needs
 
--- src/walk_forms.rt:72:9
 slice-aggregate-put-walk-2 : tie.Need-slice-aggregate-put-walk-2
 slice-aggregate-put-walk-2 c = simp length-take (omega arith)
 
--- src/walk_forms.rt:73:9
 array-borrow-prefix-looks : tie.Need-array-borrow-prefix-looks
 array-borrow-prefix-looks c = search needs
 
--- src/walk_forms.rt:73:9
 slice-aggregate-put-walk-3 : tie.Need-slice-aggregate-put-walk-3
 slice-aggregate-put-walk-3 c = simp length-take (omega arith)
 
--- src/walk_forms.rt:67:5
 put-walk-requires : tie.Need-put-walk-requires
 put-walk-requires c κs = search needs
 
--- src/walk_forms.rt:59:1
 same-length : tie.Need-same-length
 same-length c = search needs
 
--- src/walk_forms.rt:59:1
 returns : tie.Need-returns
 returns c = search needs
 
