@@ -32,7 +32,7 @@ use Rattle.air.specs.Halving.{halving}
 use Rattle.air.specs.HalvingLaws.{halving-ind}
 use Rattle.air.specs.Inverse.{fits, temperature, rest, looks, unreached, found}
 use Rattle.air.specs.InverseLaws.{looks-most, temperature-most, temperature-least, rest-least}
-use Rattle.air.specs.Refusals.{Told, gives, refuses, refusesRow, Line, _when_, _on-row_when_, first, Clear, clear, none as nothing}
+use Rattle.air.specs.Refusals.{Told, gives, refuses, refusesRow, Line, _when_, _on-row_when_, first, Clear, clear, none as nothing, andThen}
 use Rattle.air.specs.RefusalsLaws.{gives-clear, values-given}
 use Rattle.air.specs.OrdersLaws.{clear-left, clear-right}
 use Rattle.air.specs.Answers.{psiValue, psiOrder}
@@ -52,7 +52,7 @@ use Rattle.gas.specs.Heat.{gasHeat, contentAbove15, specificContent}
 use Rattle.gas.specs.Answers.{chargeLines, temperatureLines, heatOrder, searchOrder, burnTold}
 use Rattle.gas.specs.AnswersLaws.{Readable, readable-of}
 use Rattle.walk.specs.declared.Step.{Step}
-use Rattle.walk.specs.Step.{State, Out, Asked, held, added, newGas, askLines, askedOf as stepAsked, asked, outOf, sought, andThen, judge}
+use Rattle.walk.specs.Step.{State, Out, Asked, held, added, newGas, askLines, askedOf as stepAsked, asked, outOf, sought, judge}
 use Rattle.walk.specs.Walk.{Trace, End, ended, cut, run, onward, stepsOf, startLines, startState, walked, chargeOf, courseOf}
 use Rattle.walk.specs.RunLaws.{StepDone, step-done}
 use Rattle.typed.specs.Typed.{numberOf}
