@@ -1,4 +1,4 @@
--- No answer is longer than 8,192 bytes, whatever the line and the sheet list, so none is cut where that much room is left: `answer-short`, `answer-whole`. A walk of 64 steps is the
+-- No answer is longer than 8,192 bytes, whatever the line and the sheet list, so none is cut where that much room is left: `answer-short`, `answer-whole`; and no printed walk longer than 4,096: `page-short`. A walk of 64 steps is the
 -- longest: 100 bytes a step, and its course. Assumes nothing.
 use Prim.Native.Nat.{ℕ, zero, suc, _+_, _-_, _*_, _/_, _%_, _≤_, _<_}
 use mathlib.Core.Path.{_≡_, refl, sym, ap, subst}
@@ -69,10 +69,10 @@ use Rattle.console.specs.declared.requests.Quantity.the-variants.{Heat, 
 use Rattle.console.specs.declared.requests.Asked.the-variants.{Of}
 use Rattle.console.specs.declared.requests.Request.{Request}
 use Rattle.console.specs.declared.requests.Request.the-variants.{AirHeat, AirPsi, AirCp, AirTemperature, Burn, OfGas, Walk, Mark, Unknown}
-use Rattle.console.specs.declared.walks.Layout.the-variants.{Line as InLine}
+use Rattle.console.specs.declared.walks.Layout.the-variants.{Line as InLine, Page}
 use Rattle.console.specs.Requests.{askedOf, requestOf}
 use Rattle.console.specs.Marks.{kindOf, inUnit, markedText, numberText, typedText, kindText, markRequest}
-use Rattle.console.specs.Walks.{walkTold, stateText, courseText, stepsText, walkText, startOf, walkOf}
+use Rattle.console.specs.Walks.{walkTold, stateText, courseText, stepsText, walkText, startOf, walkOf, endText, printedWalk}
 use Rattle.console.specs.Answers.{airHeatText, airPsiText, airCpText, airTemperatureText, burnText, temperatureText, stationText, quantityText, replyText, answerFields, answerOf}
 
 -- ---- numbers
@@ -445,6 +445,7 @@ record Modest (o : Out) : Type 0 where
   warm : o .state .mk ≤ 2000000
   left : Narrow (o .rests)
   seen : length (countedText (o .seen)) ≤ 58
+  few : length (o .seen) < 100
 
 data AllModest : List Out → Type 0 where
   none-done : AllModest []
@@ -480,6 +481,7 @@ module _ {s : List ℕ} (ok : Accepted s) where
           warm = m;
           left = rest-narrow v (a .target) l u (λ T y z. omega (arith, gas-heat-most b ok T y z)) (λ T y z. omega (arith, gas-heat-least b ok T y z));
           seen = counted-most v (a .target);
+          few = omega (arith, looks-most v (a .target));
         },
         record { limits = b .limits; warm = m },
       )
@@ -579,6 +581,41 @@ module _ (s : List ℕ) (ch : Charge) (mk : ℤ) (numbers : List ℤ) where
   short-walk : length (walkText (walkTold Good s ch mk numbers)) ≤ 8191
   unfolding walked
   short-walk = short-told (first lines course-of) refl
+
+-- ---- a printed walk
+lines-most : {os : List Out} → AllModest os → (i : ℕ) → i + length os ≤ 65 → length (stepsText Page i os) ≤ 50 * length os
+lines-most none-done i h = omega arith
+lines-most (one-more {o} {os} m k) i h =
+    let n : length (o .seen) < 100 = m .few in
+    simp length-append
+    (omega (
+      arith,
+      small-most i (omega arith),
+      number-most (o .state .mk) (let w = m .warm in omega arith),
+      field-most (o .rests) (m .left),
+      small-most (length (o .seen)) n,
+      lines-most k (suc i) (omega arith),
+    ))
+
+end-most : (n : ℕ) (e : End) → Ends e → length (endText (gives (courseOf n e))) ≤ 11
+end-most n (ended st) (at-last k) = omega arith
+end-most n (cut m st) (at-step l k) = simp length-append (omega (arith, small-most m l))
+
+module _ (s : List ℕ) (ch : Charge) (mk : ℤ) (numbers : List ℤ) where
+  page-told : (x : Told Trace) → first (lines s ch mk numbers) (course-of s ch mk numbers) ≡ x → length (printedWalk x) ≤ 4096
+  unfolding printedWalk
+  page-told (gives t) e =
+      let c = gives-clear (lines s ch mk numbers) {a = course-of s ch mk numbers} {b = t} e in
+      let r : Runs 64 t = rw (← c .1) (began s ch mk numbers (c .0)) in
+      let n = r .count in
+      simp length-append (omega (arith, end-most (length (t .outs)) (t .end) (r .end), lines-most (r .outs) 1 (omega arith)))
+  page-told (refuses n) e = simp length-append (omega (arith, small-most n (few-refuses (lines s ch mk numbers) (course-of s ch mk numbers) n (few-lines s ch mk numbers) e)))
+  page-told (refusesRow n i) e = simp length-append (omega (arith, small-most n (few-row (lines s ch mk numbers) (course-of s ch mk numbers) n i (few-lines s ch mk numbers) e .0)))
+
+  -- no printed walk is longer than 4,096 bytes
+  pub page-short : length (printedWalk (walkTold Good s ch mk numbers)) ≤ 4096
+  unfolding walked
+  page-short = page-told (first (lines s ch mk numbers) (course-of s ch mk numbers)) refl
 
 short-walk-of : (verdict : SheetAnswer) → Brief verdict → (s : List ℕ) (n : Four) (zs : List ℤ) → length (walkOf verdict s n zs) ≤ 8191
 unfolding walkText
