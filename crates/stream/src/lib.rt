@@ -1,9 +1,9 @@
-// Lines from standard input and answers to standard output, for the programs. No contract can say what is read or written, so these calls promise that they are
-// safe and end; what is done with a line is promised by the library that answers it.
+// Lines from standard input and answers to standard output, for the programs. How a line is taken from the pieces that are read is promised by an equation
+// (specs/Taking.antt). No contract can say what is read or written, so the other calls promise that they are safe and end.
 ghost use mathlib.Core.Path.{_≡_};
 ghost use Prim.Native.Nat.{_≤_, _/_};
 ghost use lib.ListN.{length};
-ghost use Rattle.stream.specs.Taking.{Gone, Inside};
+ghost use Rattle.stream.specs.Taking.{pushed, Takes, Inside};
 use libc::STDIN_FILENO;
 use libc::STDOUT_FILENO;
 
@@ -21,7 +21,9 @@ pub struct Taken {
 }
 
 // The line with one byte more, where there is room for it.
-fn push(held: Held, b: u8, line: &mut [u8]) -> Held {
+fn push(held: Held, b: u8, line: &mut [u8]) -> Held
+    ensures { λ r. ⌜ record { held = r; buffer = now (line .exit) } ≡ pushed held (now (line .entry)) b ⌝ }
+{
     let Held::Bytes(n) = held else {
         return Held::Over;
     };
@@ -35,7 +37,7 @@ fn push(held: Held, b: u8, line: &mut [u8]) -> Held {
 
 // Takes the bytes of a piece from `from` on, up to the end of the line that is held or of the piece.
 pub fn take_line(held: Held, piece: &[u8], from: usize, line: &mut [u8]) -> Taken
-    ensures { λ r. ⌜ Gone from (now (piece .entry)) (r .next) ⌝ }
+    ensures { λ r. ⌜ Takes held (now (piece .entry)) from (now (line .entry)) r (now (line .exit)) ⌝ }
 {
     let mut held = held;
     let mut i = from;

@@ -3,6 +3,7 @@ use native.Mathlib.Omega.{arith}
 use mathlib.Core.Path.{_≡_}
 use Prim.Native.Nat.{_-_}
 use borrow.Author.Needs.{needs}
+use Rattle.stream.specs.TakingLaws.{goes-on}
 use Rattle.trials.proofs.answer_piece.Statement.{statement}
 use Rattle.trials.proofs.answer_piece.Tie as tie
 
@@ -22,13 +23,13 @@ answer-held-requires : tie.Need-answer-held-requires Inv-loop μ-loop
 answer-held-requires c κs = search needs
 
 loop-less : tie.Need-loop-less Inv-loop μ-loop
-loop-less c = omega (arith, c .before .before .before .before .before .before .before .before .before .before .before .take-line .ensures .on (c .before .before .before .before .before .before .before .before .before .before .before .before .before .loop-test .taken))
+loop-less c = omega (arith, goes-on (c .before .before .before .before .before .before .before .before .before .before .before .take-line .ensures) (c .before .before .before .before .before .before .before .before .before .before .before .before .before .loop-test .taken))
 
 loop-again : tie.Need-loop-again Inv-loop μ-loop
 loop-again c = search needs
 
 loop-less-2 : tie.Need-loop-less-2 Inv-loop μ-loop
-loop-less-2 c = omega (arith, c .before .before .before .take-line .ensures .on (c .before .before .before .before .before .loop-test .taken))
+loop-less-2 c = omega (arith, goes-on (c .before .before .before .take-line .ensures) (c .before .before .before .before .before .loop-test .taken))
 
 loop-again-2 : tie.Need-loop-again-2 Inv-loop μ-loop
 loop-again-2 c = search needs
