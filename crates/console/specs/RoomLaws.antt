@@ -1,4 +1,4 @@
--- No answer is longer than 8,192 bytes, whatever the line and the sheet list, so none is cut where that much room is left: `answer-short`, `answer-whole`; and no printed walk longer than 4,096: `page-short`. A walk of 64 steps is the
+-- No answer is longer than 8,192 bytes, whatever the line, the sheet list and the verdict on it, so none is cut where that much room is left: `answer-short`, `answer-whole`; and no printed walk longer than 4,096: `page-short`. A walk of 64 steps is the
 -- longest: 100 bytes a step, and its course. Assumes nothing.
 use Prim.Native.Nat.{ℕ, zero, suc, _+_, _-_, _*_, _/_, _%_, _≤_, _<_}
 use mathlib.Core.Path.{_≡_, refl, sym, ap, subst}
@@ -39,8 +39,9 @@ use Rattle.air.specs.Answers.{psiValue, psiOrder}
 use Rattle.air.specs.declared.Refusal.the-variants.{Plain, AtRow}
 use Rattle.console.specs.Texts.{okText, fieldsText, refusalText, toldText, countedText, foundText, valueText, figuresText, productsText, burntText, verdictText}
 use Rattle.text.specs.ReadingLaws.{and-left, and-right}
-use Rattle.sheet.specs.Sheet.{Accepted, firstBadRow}
-use Rattle.sheet.specs.Answers.{sheetLines}
+use Rattle.sheet.specs.Sheet.{Accepted, notLong, firstBadRow}
+use Rattle.sheet.specs.Answers.{paper, sheetLines, judgeTold, Form, sheetOf, noSheet, breaks, badRowOf, SheetRead}
+use Rattle.sheet.specs.FirstBadLaws.{bad-row-most}
 use Rattle.gas.specs.declared.Charge.{Charge}
 use Rattle.sheet.specs.AnswersLaws.{accepted-of-told}
 use Rattle.sheet.specs.declared.SheetAnswer.{SheetAnswer}
@@ -173,6 +174,33 @@ told-most {A} values k (n on-row r when c ∷ ls) a h (row m j f) v = go c refl 
     go : (b : Bool) → c ≡ b → (c ≡ false → length (toldText values (first ls a)) ≤ k) → length (toldText values (cond b (refusesRow n r) (first ls a))) ≤ k
     go true e i = omega (arith, row-text-most n r m (j e))
     go false e i = i e
+
+-- the number of a refusal that is told is one of its lines
+few-refuses : {A : Type 0} (ls : List Line) (a : A) (n : ℕ) → Few ls → first ls a ≡ refuses n → n < 100
+few-refuses [] a n few-none e = absurd (let z : _≡_ {A = ℕ} 0 1 = cc in omega arith)
+few-refuses {A} (m when c ∷ ls) a n (plain h f) e = go c e (λ q. few-refuses ls a n f q)
+  where
+    go : (b : Bool) → cond b (refuses m) (first {A = A} ls a) ≡ refuses n → (first {A = A} ls a ≡ refuses n → n < 100) → n < 100
+    go true q i = let z : m ≡ n = cc in omega arith
+    go false q i = i q
+few-refuses {A} (m on-row r when c ∷ ls) a n (row h k f) e = go c e (λ q. few-refuses ls a n f q)
+  where
+    go : (b : Bool) → cond b (refusesRow m r) (first {A = A} ls a) ≡ refuses n → (first {A = A} ls a ≡ refuses n → n < 100) → n < 100
+    go true q i = absurd (let z : _≡_ {A = ℕ} 0 1 = cc in omega arith)
+    go false q i = i q
+
+few-row : {A : Type 0} (ls : List Line) (a : A) (n i : ℕ) → Few ls → first ls a ≡ refusesRow n i → (n < 100) × (i < 10000)
+few-row [] a n i few-none e = absurd (let z : _≡_ {A = ℕ} 0 1 = cc in omega arith)
+few-row {A} (m when c ∷ ls) a n i (plain h f) e = go c e (λ q. few-row ls a n i f q)
+  where
+    go : (b : Bool) → cond b (refuses m) (first {A = A} ls a) ≡ refusesRow n i → (first {A = A} ls a ≡ refusesRow n i → (n < 100) × (i < 10000)) → (n < 100) × (i < 10000)
+    go true q j = absurd (let z : _≡_ {A = ℕ} 0 1 = cc in omega arith)
+    go false q j = j q
+few-row {A} (m on-row r when c ∷ ls) a n i (row h k f) e = go c refl e (λ q. few-row ls a n i f q)
+  where
+    go : (b : Bool) → c ≡ b → cond b (refusesRow m r) (first {A = A} ls a) ≡ refusesRow n i → (first {A = A} ls a ≡ refusesRow n i → (n < 100) × (i < 10000)) → (n < 100) × (i < 10000)
+    go true x q j = let y : m ≡ n = cc in let z : r ≡ i = cc in let w = k x in (omega arith, omega arith)
+    go false x q j = j q
 
 few-sheet : (s : List ℕ) → Few (sheetLines s)
 few-sheet s = plain (lit< tt) (row {r = firstBadRow s} {c = ltb (firstBadRow s) 1801} (lit< tt) (λ e. omega (arith, ltb-true (firstBadRow s) 1801 e)) few-none)
@@ -368,6 +396,24 @@ abbrev pub Brief : SheetAnswer → Type 0
 Brief Good = Unit {0}
 Brief (SheetRefused r) = length (refusalText r) ≤ 8191
 
+brief-told : (ls : List Line) → Few ls → (verdict : SheetAnswer) → paper verdict ≡ first ls tt → Brief verdict
+brief-told ls f Good e = tt
+brief-told ls f (SheetRefused (Plain n)) e = omega (arith, plain-most n (few-refuses ls tt n f (sym e)))
+brief-told ls f (SheetRefused (AtRow n i)) e = let g = few-row ls tt n i f (sym e) in omega (arith, row-text-most n i (g .0) (g .1))
+
+-- and so is every verdict of the judge of a list and of the reader of a text
+pub judge-brief : (s : List ℕ) (verdict : SheetAnswer) → paper verdict ≡ judgeTold s → Brief verdict
+judge-brief s verdict e = brief-told (sheetLines s) (few-sheet s) verdict e
+
+pub read-brief : {text before later : List ℕ} (verdict : SheetAnswer) → SheetRead text before verdict later → Brief verdict
+read-brief {text} {before} verdict r =
+    brief-told (1 when notLong before ∷ 2 on-row badRowOf (r .form) when breaks (r .form) ∷ [])
+    (plain (lit< tt) (row {r = badRowOf (r .form)} {c = breaks (r .form)} (lit< tt) (row-few (r .form)) few-none)) verdict (r .told)
+  where
+    row-few : (form : Form text) → breaks form ≡ true → badRowOf form < 10000
+    row-few (sheetOf numbers s) e = lit< tt
+    row-few (noSheet i b) e = omega (arith, bad-row-most text i b)
+
 short-quantity : (verdict : SheetAnswer) → Brief verdict → (s : List ℕ) (q : Quantity) (numbers : Four) → length (quantityText q s (askedOf numbers verdict)) ≤ 8191
 short-quantity Good b s q (AreFour a c h n) = short-of s (record { air = a; carbon = c; hydrogen = h }) n q
 short-quantity (SheetRefused r) b s Heat (AreFour a c h n) = b
@@ -409,33 +455,6 @@ short-mark [] = lit≤ tt
 short-mark (k ∷ fs) = short-kind (kindOf k) fs
 
 -- ---- a walk
--- the number of a refusal that is told is one of its lines
-few-refuses : {A : Type 0} (ls : List Line) (a : A) (n : ℕ) → Few ls → first ls a ≡ refuses n → n < 100
-few-refuses [] a n few-none e = absurd (let z : _≡_ {A = ℕ} 0 1 = cc in omega arith)
-few-refuses {A} (m when c ∷ ls) a n (plain h f) e = go c e (λ q. few-refuses ls a n f q)
-  where
-    go : (b : Bool) → cond b (refuses m) (first {A = A} ls a) ≡ refuses n → (first {A = A} ls a ≡ refuses n → n < 100) → n < 100
-    go true q i = let z : m ≡ n = cc in omega arith
-    go false q i = i q
-few-refuses {A} (m on-row r when c ∷ ls) a n (row h k f) e = go c e (λ q. few-refuses ls a n f q)
-  where
-    go : (b : Bool) → cond b (refusesRow m r) (first {A = A} ls a) ≡ refuses n → (first {A = A} ls a ≡ refuses n → n < 100) → n < 100
-    go true q i = absurd (let z : _≡_ {A = ℕ} 0 1 = cc in omega arith)
-    go false q i = i q
-
-few-row : {A : Type 0} (ls : List Line) (a : A) (n i : ℕ) → Few ls → first ls a ≡ refusesRow n i → (n < 100) × (i < 10000)
-few-row [] a n i few-none e = absurd (let z : _≡_ {A = ℕ} 0 1 = cc in omega arith)
-few-row {A} (m when c ∷ ls) a n i (plain h f) e = go c e (λ q. few-row ls a n i f q)
-  where
-    go : (b : Bool) → cond b (refuses m) (first {A = A} ls a) ≡ refusesRow n i → (first {A = A} ls a ≡ refusesRow n i → (n < 100) × (i < 10000)) → (n < 100) × (i < 10000)
-    go true q j = absurd (let z : _≡_ {A = ℕ} 0 1 = cc in omega arith)
-    go false q j = j q
-few-row {A} (m on-row r when c ∷ ls) a n i (row h k f) e = go c refl e (λ q. few-row ls a n i f q)
-  where
-    go : (b : Bool) → c ≡ b → cond b (refusesRow m r) (first {A = A} ls a) ≡ refusesRow n i → (first {A = A} ls a ≡ refusesRow n i → (n < 100) × (i < 10000)) → (n < 100) × (i < 10000)
-    go true x q j = let y : m ≡ n = cc in let z : r ≡ i = cc in let w = k x in (omega arith, omega arith)
-    go false x q j = j q
-
 -- a state within the limits, and a step's outputs
 record Steady (st : State) : Type 0 where
   limits : Limits document01 (st .gas)
