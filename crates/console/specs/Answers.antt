@@ -2,6 +2,7 @@
 -- tells what the call of the layer below tells of that list, refusals 1 and 3 among them; a sheet that was refused tells its refusal to every request that needs one.
 use Prim.Native.Nat.{ℕ}
 use mathlib.Core.List.{List, [], _∷_, _++_}
+use lib.IntN.{ℤ}
 use Rattle.text.specs.declared.Whole.{Whole}
 use Rattle.text.specs.declared.Whole.the-variants.{Is, Not}
 use Rattle.fields.specs.declared.Three.{Three}
@@ -13,12 +14,15 @@ use Rattle.air.specs.Answers.{heatTold as airHeatTold, psiTold, cpTold, psiValu
 use Rattle.sheet.specs.Sheet.{Accepted}
 use Rattle.sheet.specs.declared.SheetAnswer.{SheetAnswer}
 use Rattle.sheet.specs.declared.SheetAnswer.the-variants.{Good, Refused as SheetRefused}
+use Rattle.gas.specs.declared.Charge.{Charge}
 use Rattle.gas.specs.Burning.{document01, gasOf}
 use Rattle.gas.specs.Heat.{gasHeat}
 use Rattle.gas.specs.Answers.{burnTold, heatTold, contentTold, specificTold, temperatureTold, heatOrder}
 use Rattle.marking.specs.Figures.{stationSpecific, stationMass}
 use Rattle.console.specs.declared.requests.Request.{Request}
-use Rattle.console.specs.declared.requests.Request.the-variants.{AirHeat, AirPsi, AirCp, AirTemperature, Burn, OfGas, Walk, Mark, Unknown}
+use Rattle.console.specs.declared.requests.Request.the-variants.{OfAir, Burn, OfGas, Walk, Mark, Unknown}
+use Rattle.console.specs.declared.requests.Reading.{Reading}
+use Rattle.console.specs.declared.requests.Reading.the-variants.{Heat as AirHeat, Psi as AirPsi, Cp as AirCp, Temperature as AirTemperature}
 use Rattle.console.specs.declared.requests.Quantity.{Quantity}
 use Rattle.console.specs.declared.requests.Quantity.the-variants.{Heat, Content, Specific, Temperature, Station}
 use Rattle.console.specs.declared.requests.Asked.{Asked}
@@ -28,78 +32,43 @@ use Rattle.console.specs.Texts.{unknownText, misfitText, refusalText, to
 use Rattle.console.specs.Marks.{markRequest}
 use Rattle.console.specs.Walks.{walkRequest}
 
--- air-heat mK
-abbrev pub airHeatText : Whole → List ℕ
-airHeatText (Is mk) = readingText (airHeatTold mk)
-airHeatText Not = misfitText
+-- air-heat and air-psi mK, air-cp K, air-temperature psi
+abbrev pub airText : Reading → ℤ → List ℕ
+airText AirHeat mk = readingText (airHeatTold mk)
+airText AirPsi mk = readingText (psiTold mk)
+airText AirCp kelvin = readingText (cpTold kelvin)
+airText AirTemperature psi = inverseText (psiInverseTold 11 psi) (looks psiValue psi)
 
--- air-psi mK
-abbrev pub airPsiText : Whole → List ℕ
-airPsiText (Is mk) = readingText (psiTold mk)
-airPsiText Not = misfitText
-
--- air-cp K
-abbrev pub airCpText : Whole → List ℕ
-airCpText (Is kelvin) = readingText (cpTold kelvin)
-airCpText Not = misfitText
-
--- air-temperature psi
-abbrev pub airTemperatureText : Whole → List ℕ
-airTemperatureText (Is psi) = inverseText (psiInverseTold 11 psi) (looks psiValue psi)
-airTemperatureText Not = misfitText
+-- what is asked of air
+abbrev pub airReply : Reading → Whole → List ℕ
+airReply reading (Is number) = airText reading number
+airReply reading Not = misfitText
 
 -- burn A c h
 abbrev pub burnText : Three → List ℕ
 burnText (AreThree air carbon hydrogen) = burntText (burnTold document01 (record { air = air; carbon = carbon; hydrogen = hydrogen }))
 burnText NotThree = misfitText
 
--- gas-heat A c h mK
-abbrev pub gasHeatText : List ℕ → Asked → List ℕ
-gasHeatText s (Of charge mk) = wholeText (heatTold document01 charge mk s)
-gasHeatText s (Refused r) = refusalText r
-gasHeatText s Misfit = misfitText
-
--- content A c h mK
-abbrev pub contentText : List ℕ → Asked → List ℕ
-contentText s (Of charge mk) = wholeText (contentTold document01 charge mk s)
-contentText s (Refused r) = refusalText r
-contentText s Misfit = misfitText
-
--- specific-content A c h mK
-abbrev pub specificText : List ℕ → Asked → List ℕ
-specificText s (Of charge mk) = wholeText (specificTold document01 charge mk s)
-specificText s (Refused r) = refusalText r
-specificText s Misfit = misfitText
-
--- temperature A c h target
-abbrev pub temperatureText : List ℕ → Asked → List ℕ
-temperatureText s (Of charge target) = inverseText (temperatureTold document01 charge target s 11) (looks (gasHeat document01 s (gasOf charge)) target)
-temperatureText s (Refused r) = refusalText r
-temperatureText s Misfit = misfitText
-
--- station A c h mK: each figure is exactly its number (`station-exact` of marking)
-abbrev pub stationText : List ℕ → Asked → List ℕ
-stationText s (Of charge mk) =
+-- gas-heat, content and specific-content A c h mK; temperature A c h target; station A c h mK, whose figures are exactly their numbers (`station-exact` of marking)
+abbrev pub gasText : Quantity → List ℕ → Charge → ℤ → List ℕ
+gasText Heat s charge mk = wholeText (heatTold document01 charge mk s)
+gasText Content s charge mk = wholeText (contentTold document01 charge mk s)
+gasText Specific s charge mk = wholeText (specificTold document01 charge mk s)
+gasText Temperature s charge target = inverseText (temperatureTold document01 charge target s 11) (looks (gasHeat document01 s (gasOf charge)) target)
+gasText Station s charge mk =
     toldText figuresText (first (heatOrder document01 charge mk s) (record { mk = mk; specific = stationSpecific charge mk s; mass = stationMass charge }))
-stationText s (Refused r) = refusalText r
-stationText s Misfit = misfitText
 
 -- what is asked of a gas
-abbrev pub quantityText : Quantity → List ℕ → Asked → List ℕ
-quantityText Heat s asked = gasHeatText s asked
-quantityText Content s asked = contentText s asked
-quantityText Specific s asked = specificText s asked
-quantityText Temperature s asked = temperatureText s asked
-quantityText Station s asked = stationText s asked
+abbrev pub gasReply : Quantity → List ℕ → Asked → List ℕ
+gasReply quantity s (Of charge number) = gasText quantity s charge number
+gasReply quantity s (Refused r) = refusalText r
+gasReply quantity s Misfit = misfitText
 
 -- the reply to a request, by its further fields
 abbrev pub replyText : SheetAnswer → List ℕ → Request → List (List ℕ) → List ℕ
-replyText verdict s AirHeat fs = airHeatText (oneOf fs)
-replyText verdict s AirPsi fs = airPsiText (oneOf fs)
-replyText verdict s AirCp fs = airCpText (oneOf fs)
-replyText verdict s AirTemperature fs = airTemperatureText (oneOf fs)
+replyText verdict s (OfAir reading) fs = airReply reading (oneOf fs)
 replyText verdict s Burn fs = burnText (threeOf fs)
-replyText verdict s (OfGas quantity) fs = quantityText quantity s (askedOf (fourOf fs) verdict)
+replyText verdict s (OfGas quantity) fs = gasReply quantity s (askedOf (fourOf fs) verdict)
 replyText verdict s Walk fs = walkRequest verdict s fs
 replyText verdict s Mark fs = markRequest fs
 replyText verdict s Unknown fs = unknownText

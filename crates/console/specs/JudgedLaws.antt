@@ -27,13 +27,12 @@ use Rattle.air.specs.Inverse.{unreached, found, looks}
 use Rattle.marking.specs.Figures.{stationSpecific, stationMass}
 use Rattle.walk.specs.Walk.{run, width, stepsOf, startLines, startState, walked}
 use Rattle.console.specs.declared.requests.Request.{Request}
-use Rattle.console.specs.declared.requests.Request.the-variants.{AirHeat, AirPsi, AirCp, AirTemperature, Burn, OfGas, Walk, Mark, Unknown}
+use Rattle.console.specs.declared.requests.Request.the-variants.{OfAir, Burn, OfGas, Walk, Mark, Unknown}
 use Rattle.console.specs.declared.requests.Quantity.{Quantity}
 use Rattle.console.specs.declared.requests.Quantity.the-variants.{Heat, Content, Specific, Temperature, Station}
-use Rattle.console.specs.declared.requests.Asked.the-variants.{Of, Refused as AskedRefused}
 use Rattle.console.specs.Requests.{requestOf, askedOf}
 use Rattle.console.specs.Texts.{refusalText, toldText, foundText, valueText, wholeText, figuresText}
-use Rattle.console.specs.Answers.{temperatureText, stationText, quantityText, replyText, answerFields, answerOf, Judged, Ready}
+use Rattle.console.specs.Answers.{gasText, gasReply, replyText, answerFields, answerOf, Judged, Ready}
 use Rattle.console.specs.Walks.{walkTold, walkText, startOf, walkOf, printedWalk}
 use Rattle.console.specs.AnswersLaws.{told-refused}
 
@@ -65,45 +64,32 @@ module _ (s : List ℕ) (r : Refusal) (e : paper (Refused r) ≡ judgeTold s) wh
     heat-refused : (value : ℤ) → refusalText r ≡ wholeText (first (heatOrder document01 ch n s) value)
     heat-refused = refusal-is valueText (chargeLines document01 ch ++ temperatureLines n)
 
-    temperature-refused : temperatureText s (AskedRefused r) ≡ temperatureText s (Of ch n)
-    temperature-refused =
+    gas-refused : (q : Quantity) → refusalText r ≡ gasText q s ch n
+    gas-refused Heat = heat-refused (gasHeat document01 s (gasOf ch) (up n))
+    gas-refused Content = heat-refused (contentAbove15 document01 s (gasOf ch) (up n))
+    gas-refused Specific = heat-refused (specificContent document01 s (gasOf ch) (up n))
+    gas-refused Temperature =
         let v = gasHeat document01 s (gasOf ch) in
         refusal-is (foundText (looks v n)) ((10 when ltb 11 11 ∷ chargeLines document01 ch) ++ unreached v n) (found v n)
-
-    station-refused : stationText s (AskedRefused r) ≡ stationText s (Of ch n)
-    station-refused = refusal-is figuresText (chargeLines document01 ch ++ temperatureLines n) (record { mk = n; specific = stationSpecific ch n s; mass = stationMass ch })
+    gas-refused Station = refusal-is figuresText (chargeLines document01 ch ++ temperatureLines n) (record { mk = n; specific = stationSpecific ch n s; mass = stationMass ch })
 
     pub walk-refused : (numbers : List ℤ) → walkTold (Refused r) s ch n numbers ≡ walkTold Good s ch n numbers
     unfolding walked
     walk-refused numbers =
         sym (stopped-by-sheet s r (startLines document01 ch n (length numbers) 64 64 704) (run document01 s (startState ch n) (stepsOf (length numbers / width) numbers)) e)
 
-  quantity-refused : (q : Quantity) (numbers : Four) → quantityText q s (askedOf numbers (Refused r)) ≡ quantityText q s (askedOf numbers Good)
-  quantity-refused Heat (Are a c h n) =
-      let ch : Charge = record { air = a; carbon = c; hydrogen = h } in heat-refused ch n (gasHeat document01 s (gasOf ch) (up n))
-  quantity-refused Content (Are a c h n) =
-      let ch : Charge = record { air = a; carbon = c; hydrogen = h } in heat-refused ch n (contentAbove15 document01 s (gasOf ch) (up n))
-  quantity-refused Specific (Are a c h n) =
-      let ch : Charge = record { air = a; carbon = c; hydrogen = h } in heat-refused ch n (specificContent document01 s (gasOf ch) (up n))
-  quantity-refused Temperature (Are a c h n) = temperature-refused (record { air = a; carbon = c; hydrogen = h }) n
-  quantity-refused Station (Are a c h n) = station-refused (record { air = a; carbon = c; hydrogen = h }) n
-  quantity-refused Heat Not = refl
-  quantity-refused Content Not = refl
-  quantity-refused Specific Not = refl
-  quantity-refused Temperature Not = refl
-  quantity-refused Station Not = refl
+  asked-refused : (q : Quantity) (numbers : Four) → gasReply q s (askedOf numbers (Refused r)) ≡ gasReply q s (askedOf numbers Good)
+  asked-refused q (Are a c h n) = gas-refused (record { air = a; carbon = c; hydrogen = h }) n q
+  asked-refused q Not = refl
 
   walk-of-refused : (numbers : Four) (zs : List ℤ) → walkOf (Refused r) s numbers zs ≡ walkOf Good s numbers zs
   walk-of-refused (Are a c h n) zs = ap walkText (walk-refused (record { air = a; carbon = c; hydrogen = h }) n zs)
   walk-of-refused Not zs = refl
 
   reply-refused : (q : Request) (fs : List (List ℕ)) → replyText (Refused r) s q fs ≡ replyText Good s q fs
-  reply-refused AirHeat fs = refl
-  reply-refused AirPsi fs = refl
-  reply-refused AirCp fs = refl
-  reply-refused AirTemperature fs = refl
+  reply-refused (OfAir reading) fs = refl
   reply-refused Burn fs = refl
-  reply-refused (OfGas q) fs = quantity-refused q (fourOf fs)
+  reply-refused (OfGas q) fs = asked-refused q (fourOf fs)
   reply-refused Walk fs = walk-of-refused (startOf (countAll 0 fs) (valuesOf fs)) (drop 4 (valuesOf fs))
   reply-refused Mark fs = refl
   reply-refused Unknown fs = refl

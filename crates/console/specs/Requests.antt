@@ -8,7 +8,8 @@ use Rattle.fields.specs.declared.Four.the-variants.{Are, Not}
 use Rattle.sheet.specs.declared.SheetAnswer.{SheetAnswer}
 use Rattle.sheet.specs.declared.SheetAnswer.the-variants.{Good, Refused as SheetRefused}
 use Rattle.console.specs.declared.requests.Request.{Request}
-use Rattle.console.specs.declared.requests.Request.the-variants.{AirHeat, AirPsi, AirCp, AirTemperature, Burn, OfGas, Walk, Mark, Unknown}
+use Rattle.console.specs.declared.requests.Request.the-variants.{OfAir, Burn, OfGas, Walk, Mark, Unknown}
+use Rattle.console.specs.declared.requests.Reading.the-variants.{Heat as AirHeat, Psi as AirPsi, Cp as AirCp, Temperature as AirTemperature}
 use Rattle.console.specs.declared.requests.Quantity.the-variants.{Heat, Content, Specific, Temperature, Station}
 use Rattle.console.specs.declared.requests.Asked.{Asked}
 use Rattle.console.specs.declared.requests.Asked.the-variants.{Of, Refused, Misfit}
@@ -87,10 +88,10 @@ gasRequest w =
 
 unfoldable pub requestOf : List ℕ → Request
 requestOf w =
-    cond (sameText w airHeatWord) AirHeat
-    (cond (sameText w airPsiWord) AirPsi
-    (cond (sameText w airCpWord) AirCp
-    (cond (sameText w airTemperatureWord) AirTemperature
+    cond (sameText w airHeatWord) (OfAir AirHeat)
+    (cond (sameText w airPsiWord) (OfAir AirPsi)
+    (cond (sameText w airCpWord) (OfAir AirCp)
+    (cond (sameText w airTemperatureWord) (OfAir AirTemperature)
     (gasRequest w))))
 
 -- four numbers are a charge and a number to be asked of the sheet; a sheet that was refused when it was read tells its refusal instead

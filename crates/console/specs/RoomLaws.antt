@@ -69,12 +69,14 @@ use Rattle.console.specs.declared.requests.Quantity.{Quantity}
 use Rattle.console.specs.declared.requests.Quantity.the-variants.{Heat, Content, Specific, Temperature, Station}
 use Rattle.console.specs.declared.requests.Asked.the-variants.{Of}
 use Rattle.console.specs.declared.requests.Request.{Request}
-use Rattle.console.specs.declared.requests.Request.the-variants.{AirHeat, AirPsi, AirCp, AirTemperature, Burn, OfGas, Walk, Mark, Unknown}
+use Rattle.console.specs.declared.requests.Request.the-variants.{OfAir, Burn, OfGas, Walk, Mark, Unknown}
+use Rattle.console.specs.declared.requests.Reading.{Reading}
+use Rattle.console.specs.declared.requests.Reading.the-variants.{Heat as AirHeat, Psi as AirPsi, Cp as AirCp, Temperature as AirTemperature}
 use Rattle.console.specs.declared.walks.Layout.the-variants.{Line as InLine, Page}
 use Rattle.console.specs.Requests.{askedOf, requestOf}
 use Rattle.console.specs.Marks.{kindOf, inUnit, markedText, numberText, typedText, kindText, markRequest}
 use Rattle.console.specs.Walks.{walkTold, stateText, courseText, stepsText, walkText, startOf, walkOf, endText, printedWalk}
-use Rattle.console.specs.Answers.{airHeatText, airPsiText, airCpText, airTemperatureText, burnText, temperatureText, stationText, quantityText, replyText, answerFields, answerOf}
+use Rattle.console.specs.Answers.{airText, airReply, burnText, gasText, gasReply, replyText, answerFields, answerOf}
 
 -- ---- numbers
 -- 10, 100 ..
@@ -243,22 +245,19 @@ cp-low k = go (ltb k 200)
     go true = lit< tt
     go false = low-at rowsCp (k - 200) cps-low
 
-short-air-heat : (n : Whole) → length (airHeatText n) ≤ 8191
+short-air-heat : (mk : ℤ) → length (airText AirHeat mk) ≤ 8191
 unfolding airHeat
-short-air-heat (Is mk) = told-most (λ n. okText ++ (9 ∷ decimal n)) 8191 (temperatureLines mk) (airHeat (up mk)) (lit≤ tt) (plain (lit< tt) few-none)
+short-air-heat mk = told-most (λ n. okText ++ (9 ∷ decimal n)) 8191 (temperatureLines mk) (airHeat (up mk)) (lit≤ tt) (plain (lit< tt) few-none)
     (λ c. omega (arith, number-most (airHeat (up mk)) (omega (arith, between-most airH 53789 H-most (up mk)))))
-short-air-heat Not = lit≤ tt
 
-short-air-psi : (n : Whole) → length (airPsiText n) ≤ 8191
+short-air-psi : (mk : ℤ) → length (airText AirPsi mk) ≤ 8191
 unfolding airPsiAt
-short-air-psi (Is mk) = told-most (λ n. okText ++ (9 ∷ decimal n)) 8191 (temperatureLines mk) (airPsiAt (up mk)) (lit≤ tt) (plain (lit< tt) few-none)
+short-air-psi mk = told-most (λ n. okText ++ (9 ∷ decimal n)) 8191 (temperatureLines mk) (airPsiAt (up mk)) (lit≤ tt) (plain (lit< tt) few-none)
     (λ c. omega (arith, number-most (airPsiAt (up mk)) (omega (arith, between-most airPsi 133151 psi-most (up mk)))))
-short-air-psi Not = lit≤ tt
 
-short-air-cp : (n : Whole) → length (airCpText n) ≤ 8191
-short-air-cp (Is k) = told-most (λ n. okText ++ (9 ∷ decimal n)) 8191 (6 when outside (pos 200) (pos 2000) k ∷ []) (airCp (up k)) (lit≤ tt) (plain (lit< tt) few-none)
+short-air-cp : (k : ℤ) → length (airText AirCp k) ≤ 8191
+short-air-cp k = told-most (λ n. okText ++ (9 ∷ decimal n)) 8191 (6 when outside (pos 200) (pos 2000) k ∷ []) (airCp (up k)) (lit≤ tt) (plain (lit< tt) few-none)
     (λ c. omega (arith, row-most (airCp (up k)) (cp-low (up k))))
-short-air-cp Not = lit≤ tt
 
 psi-at-most : (T : ℕ) → airPsiAt T ≤ 266302000
 unfolding airPsiAt
@@ -295,13 +294,19 @@ ends v t (clear a (clear b n)) = (a, b)
 tail-clear : {l : Line} {ls : List Line} → Clear (l ∷ ls) → Clear ls
 tail-clear (clear e c) = c
 
-short-air-temperature : (n : Whole) → length (airTemperatureText n) ≤ 8191
-short-air-temperature (Is t) = told-most (foundText (looks psiValue t)) 8191 (psiOrder 11 t) (found psiValue t) (lit≤ tt) (plain (lit< tt) (plain (lit< tt) (plain (lit< tt) few-none)))
+short-air-temperature : (t : ℤ) → length (airText AirTemperature t) ≤ 8191
+short-air-temperature t = told-most (foundText (looks psiValue t)) 8191 (psiOrder 11 t) (found psiValue t) (lit≤ tt) (plain (lit< tt) (plain (lit< tt) (plain (lit< tt) few-none)))
     (λ c. let e = ends psiValue t (tail-clear c) in omega (arith, found-most psiValue t (e .0) (e .1) (λ T a b. most T) (λ T a b. omega arith)))
   where
     most : (T : ℕ) → airPsiAt T ≤ 2000000000000000000
     most T = omega (arith, psi-at-most T)
-short-air-temperature Not = lit≤ tt
+
+short-air : (reading : Reading) (n : Whole) → length (airReply reading n) ≤ 8191
+short-air AirHeat (Is mk) = short-air-heat mk
+short-air AirPsi (Is mk) = short-air-psi mk
+short-air AirCp (Is k) = short-air-cp k
+short-air AirTemperature (Is t) = short-air-temperature t
+short-air reading Not = lit≤ tt
 
 -- ---- a gas
 short-burn : (n : Three) → length (burnText n) ≤ 8191
@@ -362,14 +367,14 @@ module _ (s : List ℕ) (ch : Charge) (n : ℤ) where
   told-short : {A : Type 0} (values : A → List ℕ) (a : A) → (Bounded → length (values a) ≤ 8191) → length (toldText values (first (heatOrder document01 ch n s) a)) ≤ 8191
   told-short values a h = told-most values 8191 (heatOrder document01 ch n s) a (lit≤ tt) (few-heat document01 ch n s) (λ c. h (bounded c))
 
-  short-station : length (stationText s (Of ch n)) ≤ 8191
+  short-station : length (gasText Station s ch n) ≤ 8191
   short-station =
       told-short figuresText (record { mk = n; specific = stationSpecific ch n s; mass = stationMass ch })
       (λ b.
       simp length-append
       (omega (arith, field-most n (b .mk), field-most (stationSpecific ch n s) (b .specific), number-most (totalMass document01 (gasOf ch)) (b .mass))))
 
-  short-temperature : length (temperatureText s (Of ch n)) ≤ 8191
+  short-temperature : length (gasText Temperature s ch n) ≤ 8191
   short-temperature =
       let v = gasHeat document01 s (gasOf ch) in
       told-most (foundText (looks v n)) 8191 (searchOrder document01 ch s 11 ++ unreached v n) (found v n) (lit≤ tt)
@@ -384,7 +389,7 @@ module _ (s : List ℕ) (ch : Charge) (n : ℤ) where
         found-most v n (e .0) (e .1) (λ T l u. omega (arith, gas-heat-most b k T l u)) (λ T l u. omega (arith, gas-heat-least b k T l u)),
       ))
 
-  short-of : (q : Quantity) → length (quantityText q s (Of ch n)) ≤ 8191
+  short-of : (q : Quantity) → length (gasText q s ch n) ≤ 8191
   short-of Heat = told-short valueText (gasHeat document01 s (gasOf ch) (up n)) (λ b. value-most _ (b .heat))
   short-of Content = told-short valueText (contentAbove15 document01 s (gasOf ch) (up n)) (λ b. value-most _ (b .content))
   short-of Specific = told-short valueText (specificContent document01 s (gasOf ch) (up n)) (λ b. value-most _ (b .specific))
@@ -414,18 +419,10 @@ read-brief {text} {before} verdict r =
     row-few (sheetOf numbers s) e = lit< tt
     row-few (noSheet i b) e = omega (arith, bad-row-most text i b)
 
-short-quantity : (verdict : SheetAnswer) → Brief verdict → (s : List ℕ) (q : Quantity) (numbers : Four) → length (quantityText q s (askedOf numbers verdict)) ≤ 8191
+short-quantity : (verdict : SheetAnswer) → Brief verdict → (s : List ℕ) (q : Quantity) (numbers : Four) → length (gasReply q s (askedOf numbers verdict)) ≤ 8191
 short-quantity Good b s q (AreFour a c h n) = short-of s (record { air = a; carbon = c; hydrogen = h }) n q
-short-quantity (SheetRefused r) b s Heat (AreFour a c h n) = b
-short-quantity (SheetRefused r) b s Content (AreFour a c h n) = b
-short-quantity (SheetRefused r) b s Specific (AreFour a c h n) = b
-short-quantity (SheetRefused r) b s Temperature (AreFour a c h n) = b
-short-quantity (SheetRefused r) b s Station (AreFour a c h n) = b
-short-quantity verdict b s Heat NotFour = lit≤ tt
-short-quantity verdict b s Content NotFour = lit≤ tt
-short-quantity verdict b s Specific NotFour = lit≤ tt
-short-quantity verdict b s Temperature NotFour = lit≤ tt
-short-quantity verdict b s Station NotFour = lit≤ tt
+short-quantity (SheetRefused r) b s q (AreFour a c h n) = b
+short-quantity verdict b s q NotFour = lit≤ tt
 
 -- ---- marks
 short-marked : (x : Typed) (n : Two) → length (markedText x n) ≤ 8191
@@ -646,10 +643,7 @@ short-walk-of verdict b s NotFour zs = lit≤ tt
 -- ---- an answer
 module _ (verdict : SheetAnswer) (b : Brief verdict) (s : List ℕ) where
   short-reply : (q : Request) (fs : List (List ℕ)) → length (replyText verdict s q fs) ≤ 8191
-  short-reply AirHeat fs = short-air-heat (oneOf fs)
-  short-reply AirPsi fs = short-air-psi (oneOf fs)
-  short-reply AirCp fs = short-air-cp (oneOf fs)
-  short-reply AirTemperature fs = short-air-temperature (oneOf fs)
+  short-reply (OfAir reading) fs = short-air reading (oneOf fs)
   short-reply Burn fs = short-burn (threeOf fs)
   short-reply (OfGas q) fs = short-quantity verdict b s q (fourOf fs)
   short-reply Walk fs = short-walk-of verdict b s (startOf (countAll 0 fs) (valuesOf fs)) (drop 4 (valuesOf fs))

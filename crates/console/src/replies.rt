@@ -5,6 +5,7 @@ use crate::marks;
 use crate::requests;
 use crate::requests::Asked;
 use crate::requests::Quantity;
+use crate::requests::Reading;
 use crate::requests::Request;
 use crate::walks;
 use air::Millikelvin;
@@ -20,7 +21,7 @@ ghost use Rattle.sheet.specs.Sheet.{Accepted};
 ghost use Rattle.fields.specs.Fields.{fieldsFrom};
 ghost use Rattle.gas.specs.Answers.{paperBurn};
 ghost use Rattle.console.specs.Texts.{unknownText, misfitText, burntText};
-ghost use Rattle.console.specs.Answers.{Judged, Ready, airHeatText, airPsiText, airCpText, airTemperatureText, burnText, gasHeatText, contentText, specificText, temperatureText, stationText, quantityText, replyText};
+ghost use Rattle.console.specs.Answers.{Judged, Ready, airText, airReply, burnText, gasText, gasReply, replyText};
 
 // No request begins with this word.
 fn put_unknown(out: &mut [u8], at: usize) -> usize
@@ -36,51 +37,33 @@ pub(crate) fn put_misfit(out: &mut [u8], at: usize) -> usize
     text::put_text(b"error\tthe request takes other fields", out, at)
 }
 
-// air-heat mK
-fn reply_air_heat(numbers: Whole, out: &mut [u8], at: usize) -> usize
-    ensures { λ r. ⌜ Put (airHeatText numbers) (now (out .entry)) at r (now (out .exit)) ⌝ }
-{
-    match numbers {
-        Whole::Is(mk) => inner::put_reading(air::heat(Millikelvin(mk)), out, at),
-        Whole::Not => put_misfit(out, at),
-    }
-}
-
-// air-psi mK
-fn reply_air_psi(numbers: Whole, out: &mut [u8], at: usize) -> usize
-    ensures { λ r. ⌜ Put (airPsiText numbers) (now (out .entry)) at r (now (out .exit)) ⌝ }
-{
-    match numbers {
-        Whole::Is(mk) => inner::put_reading(air::psi(Millikelvin(mk)), out, at),
-        Whole::Not => put_misfit(out, at),
-    }
-}
-
-// air-cp K
-fn reply_air_cp(numbers: Whole, out: &mut [u8], at: usize) -> usize
-    ensures { λ r. ⌜ Put (airCpText numbers) (now (out .entry)) at r (now (out .exit)) ⌝ }
-{
-    match numbers {
-        Whole::Is(kelvin) => inner::put_reading(air::cp(kelvin), out, at),
-        Whole::Not => put_misfit(out, at),
-    }
-}
-
 // The temperature of a psi, asked with eleven places for looks.
 fn ask_psi(psi: i64, out: &mut [u8], at: usize) -> usize
-    ensures { λ r. ⌜ Put (airTemperatureText (Whole.Is psi)) (now (out .entry)) at r (now (out .exit)) ⌝ }
+    ensures { λ r. ⌜ Put (airText Reading.Temperature psi) (now (out .entry)) at r (now (out .exit)) ⌝ }
 {
     let mut looks = [0u32; 11];
     let answer = air::psi_inverse(psi, &mut looks);
     inner::put_psi(answer, &looks, out, at)
 }
 
-// air-temperature psi
-fn reply_air_temperature(numbers: Whole, out: &mut [u8], at: usize) -> usize
-    ensures { λ r. ⌜ Put (airTemperatureText numbers) (now (out .entry)) at r (now (out .exit)) ⌝ }
+// The reading of air at a number: mK, kelvins or a psi.
+fn tell_air(reading: Reading, number: i64, out: &mut [u8], at: usize) -> usize
+    ensures { λ r. ⌜ Put (airText reading number) (now (out .entry)) at r (now (out .exit)) ⌝ }
 {
-    match numbers {
-        Whole::Is(psi) => ask_psi(psi, out, at),
+    match reading {
+        Reading::Heat => inner::put_reading(air::heat(Millikelvin(number)), out, at),
+        Reading::Psi => inner::put_reading(air::psi(Millikelvin(number)), out, at),
+        Reading::Cp => inner::put_reading(air::cp(number), out, at),
+        Reading::Temperature => ask_psi(number, out, at),
+    }
+}
+
+// air-heat mK, air-psi mK, air-cp K, air-temperature psi
+fn reply_air(reading: Reading, number: Whole, out: &mut [u8], at: usize) -> usize
+    ensures { λ r. ⌜ Put (airReply reading number) (now (out .entry)) at r (now (out .exit)) ⌝ }
+{
+    match number {
+        Whole::Is(n) => tell_air(reading, n, out, at),
         Whole::Not => put_misfit(out, at),
     }
 }
@@ -105,80 +88,20 @@ fn reply_burn(numbers: Three, out: &mut [u8], at: usize) -> usize
     }
 }
 
-// gas-heat A c h mK
-fn reply_gas_heat(asked: Asked, sheet: &[u32], out: &mut [u8], at: usize) -> usize
-    requires { ⌜ Ready asked (now sheet) ⌝ }
-    ensures { λ r. ⌜ Put (gasHeatText (now (sheet .entry)) asked) (now (out .entry)) at r (now (out .exit)) ⌝ }
-{
-    match asked {
-        Asked::Of(charge, mk) => inner::put_heat(
-            judged::gas_heat(charge, Millikelvin(mk), sheet),
-            out,
-            at,
-        ),
-        Asked::Refused(refusal) => inner::put_refusal(refusal, out, at),
-        Asked::Misfit => put_misfit(out, at),
-    }
-}
-
-// content A c h mK
-fn reply_content(asked: Asked, sheet: &[u32], out: &mut [u8], at: usize) -> usize
-    requires { ⌜ Ready asked (now sheet) ⌝ }
-    ensures { λ r. ⌜ Put (contentText (now (sheet .entry)) asked) (now (out .entry)) at r (now (out .exit)) ⌝ }
-{
-    match asked {
-        Asked::Of(charge, mk) => inner::put_heat(
-            judged::content(charge, Millikelvin(mk), sheet),
-            out,
-            at,
-        ),
-        Asked::Refused(refusal) => inner::put_refusal(refusal, out, at),
-        Asked::Misfit => put_misfit(out, at),
-    }
-}
-
-// specific-content A c h mK
-fn reply_specific(asked: Asked, sheet: &[u32], out: &mut [u8], at: usize) -> usize
-    requires { ⌜ Ready asked (now sheet) ⌝ }
-    ensures { λ r. ⌜ Put (specificText (now (sheet .entry)) asked) (now (out .entry)) at r (now (out .exit)) ⌝ }
-{
-    match asked {
-        Asked::Of(charge, mk) => inner::put_specific(
-            judged::specific_content(charge, Millikelvin(mk), sheet),
-            out,
-            at,
-        ),
-        Asked::Refused(refusal) => inner::put_refusal(refusal, out, at),
-        Asked::Misfit => put_misfit(out, at),
-    }
-}
-
 // The temperature of a gas heat, asked with eleven places for looks.
 fn ask_temperature(charge: Charge, target: i64, sheet: &[u32], out: &mut [u8], at: usize) -> usize
     requires { ⌜ Accepted (now sheet) ⌝ }
-    ensures { λ r. ⌜ Put (temperatureText (now (sheet .entry)) (Asked.Of charge target)) (now (out .entry)) at r (now (out .exit)) ⌝ }
+    ensures { λ r. ⌜ Put (gasText Quantity.Temperature (now (sheet .entry)) charge target) (now (out .entry)) at r (now (out .exit)) ⌝ }
 {
     let mut looks = [0u32; 11];
     let answer = judged::temperature(charge, Heat(target), sheet, &mut looks);
     inner::put_temperature(answer, &looks, out, at)
 }
 
-// temperature A c h target
-fn reply_temperature(asked: Asked, sheet: &[u32], out: &mut [u8], at: usize) -> usize
-    requires { ⌜ Ready asked (now sheet) ⌝ }
-    ensures { λ r. ⌜ Put (temperatureText (now (sheet .entry)) asked) (now (out .entry)) at r (now (out .exit)) ⌝ }
-{
-    match asked {
-        Asked::Of(charge, target) => ask_temperature(charge, target, sheet, out, at),
-        Asked::Refused(refusal) => inner::put_refusal(refusal, out, at),
-        Asked::Misfit => put_misfit(out, at),
-    }
-}
-
 // The figures of a charge at a temperature, as whole numbers.
 fn ask_station(charge: Charge, mk: i64, sheet: &[u32], out: &mut [u8], at: usize) -> usize
     requires { ⌜ Accepted (now sheet) ⌝ }
-    ensures { λ r. ⌜ Put (stationText (now (sheet .entry)) (Asked.Of charge mk)) (now (out .entry)) at r (now (out .exit)) ⌝ }
+    ensures { λ r. ⌜ Put (gasText Quantity.Station (now (sheet .entry)) charge mk) (now (out .entry)) at r (now (out .exit)) ⌝ }
 {
     match gas::inner::admit_at(charge, Millikelvin(mk)) {
         Admitted::Burning(gas) => {
@@ -193,35 +116,50 @@ fn ask_station(charge: Charge, mk: i64, sheet: &[u32], out: &mut [u8], at: usize
     }
 }
 
-// station A c h mK
-fn reply_station(asked: Asked, sheet: &[u32], out: &mut [u8], at: usize) -> usize
-    requires { ⌜ Ready asked (now sheet) ⌝ }
-    ensures { λ r. ⌜ Put (stationText (now (sheet .entry)) asked) (now (out .entry)) at r (now (out .exit)) ⌝ }
-{
-    match asked {
-        Asked::Of(charge, mk) => ask_station(charge, mk, sheet, out, at),
-        Asked::Refused(refusal) => inner::put_refusal(refusal, out, at),
-        Asked::Misfit => put_misfit(out, at),
-    }
-}
-
-// What is asked of a gas.
-fn reply_quantity(
+// What a gas tells at a number: mK, or the target of a temperature.
+fn tell_gas(
     quantity: Quantity,
-    asked: Asked,
+    charge: Charge,
+    number: i64,
     sheet: &[u32],
     out: &mut [u8],
     at: usize,
 ) -> usize
-    requires { ⌜ Ready asked (now sheet) ⌝ }
-    ensures { λ r. ⌜ Put (quantityText quantity (now (sheet .entry)) asked) (now (out .entry)) at r (now (out .exit)) ⌝ }
+    requires { ⌜ Accepted (now sheet) ⌝ }
+    ensures { λ r. ⌜ Put (gasText quantity (now (sheet .entry)) charge number) (now (out .entry)) at r (now (out .exit)) ⌝ }
 {
     match quantity {
-        Quantity::Heat => reply_gas_heat(asked, sheet, out, at),
-        Quantity::Content => reply_content(asked, sheet, out, at),
-        Quantity::Specific => reply_specific(asked, sheet, out, at),
-        Quantity::Temperature => reply_temperature(asked, sheet, out, at),
-        Quantity::Station => reply_station(asked, sheet, out, at),
+        Quantity::Heat => {
+            inner::put_heat(
+                judged::gas_heat(charge, Millikelvin(number), sheet),
+                out,
+                at,
+            )
+        }
+        Quantity::Content => {
+            inner::put_heat(judged::content(charge, Millikelvin(number), sheet), out, at)
+        }
+        Quantity::Specific => {
+            inner::put_specific(
+                judged::specific_content(charge, Millikelvin(number), sheet),
+                out,
+                at,
+            )
+        }
+        Quantity::Temperature => ask_temperature(charge, number, sheet, out, at),
+        Quantity::Station => ask_station(charge, number, sheet, out, at),
+    }
+}
+
+// gas-heat, content, specific-content and station A c h mK, temperature A c h target
+fn reply_gas(quantity: Quantity, asked: Asked, sheet: &[u32], out: &mut [u8], at: usize) -> usize
+    requires { ⌜ Ready asked (now sheet) ⌝ }
+    ensures { λ r. ⌜ Put (gasReply quantity (now (sheet .entry)) asked) (now (out .entry)) at r (now (out .exit)) ⌝ }
+{
+    match asked {
+        Asked::Of(charge, number) => tell_gas(quantity, charge, number, sheet, out, at),
+        Asked::Refused(refusal) => inner::put_refusal(refusal, out, at),
+        Asked::Misfit => put_misfit(out, at),
     }
 }
 
@@ -239,14 +177,11 @@ pub(crate) fn reply(
     ensures { λ r. ⌜ Put (replyText verdict (now (sheet .entry)) request (fieldsFrom (now (line .entry)) from)) (now (out .entry)) at r (now (out .exit)) ⌝ }
 {
     match request {
-        Request::AirHeat => reply_air_heat(fields::read_one(line, from), out, at),
-        Request::AirPsi => reply_air_psi(fields::read_one(line, from), out, at),
-        Request::AirCp => reply_air_cp(fields::read_one(line, from), out, at),
-        Request::AirTemperature => reply_air_temperature(fields::read_one(line, from), out, at),
+        Request::OfAir(reading) => reply_air(reading, fields::read_one(line, from), out, at),
         Request::Burn => reply_burn(fields::read_three(line, from), out, at),
         Request::OfGas(quantity) => {
             let asked = requests::asked_of(fields::read_four(line, from), verdict);
-            reply_quantity(quantity, asked, sheet, out, at)
+            reply_gas(quantity, asked, sheet, out, at)
         }
         Request::Walk => walks::reply_walk(line, from, verdict, sheet, out, at),
         Request::Mark => marks::reply_mark(line, from, out, at),

@@ -8,15 +8,20 @@ ghost use Rattle.console.specs.Requests.{requestOf, gasRequest, otherReq
 
 // What a line asks for.
 pub enum Request {
-    AirHeat,
-    AirPsi,
-    AirCp,
-    AirTemperature,
+    OfAir(Reading),
     Burn,
     OfGas(Quantity),
     Walk,
     Mark,
     Unknown,
+}
+
+// What is asked of air, by one number.
+pub enum Reading {
+    Heat,
+    Psi,
+    Cp,
+    Temperature,
 }
 
 // What is asked of a gas over a sheet, by four numbers.
@@ -33,16 +38,16 @@ pub(crate) fn request_of(word: &[u8]) -> Request
     ensures { λ r. ⌜ r ≡ requestOf (now (word .entry)) ⌝ }
 {
     if check::same(word, b"air-heat") {
-        return Request::AirHeat;
+        return Request::OfAir(Reading::Heat);
     }
     if check::same(word, b"air-psi") {
-        return Request::AirPsi;
+        return Request::OfAir(Reading::Psi);
     }
     if check::same(word, b"air-cp") {
-        return Request::AirCp;
+        return Request::OfAir(Reading::Cp);
     }
     if check::same(word, b"air-temperature") {
-        return Request::AirTemperature;
+        return Request::OfAir(Reading::Temperature);
     }
     gas_request(word)
 }

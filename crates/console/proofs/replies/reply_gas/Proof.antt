@@ -1,18 +1,18 @@
-use Rattle.console.specs.declared.requests.Asked.{Asked}
 use Rattle.console.specs.Answers.{Ready}
+use Rattle.console.specs.declared.requests.Asked.{Asked}
 use mathlib.Core.Path.{subst}
-use mir.Syntax.{w64}
-use mir.Val.{SFits}
 use Rattle.signed.specs.Zed.{back}
+use mir.Val.{SFits}
+use mir.Syntax.{w64}
 use borrow.Author.Needs.{needs}
-use Rattle.console.proofs.replies.reply_station.Statement.{statement}
-use Rattle.console.proofs.replies.reply_station.Tie as tie
+use Rattle.console.proofs.replies.reply_gas.Statement.{statement}
+use Rattle.console.proofs.replies.reply_gas.Tie as tie
 
 enum-known-asked : tie.Need-enum-known-asked
 enum-known-asked c = search needs
 
-ask-station-requires : tie.Need-ask-station-requires
-ask-station-requires c κs = subst (λ (a : Asked). Ready a (c .before .before .before .before .before .before .args .sheet .now)) (c .before .before .asked .given .1) (c .before .before .before .before .before .before .pre)
+tell-gas-requires : tie.Need-tell-gas-requires
+tell-gas-requires c κs = subst (λ (a : Asked). Ready a (c .before .before .before .before .before .before .args .sheet .now)) (c .before .before .asked .given .1) (c .before .before .before .before .before .before .pre)
 
 enum-known-asked-2 : tie.Need-enum-known-asked-2
 enum-known-asked-2 c = search needs
@@ -30,7 +30,9 @@ same-length : tie.Need-same-length
 same-length c = search needs
 
 returns : tie.Need-returns
-returns c = let f0 : SFits w64 (c .before .before .before .before .before .asked .given .0 .1 .0) = search needs in rw (c .before .before .before .before .before .asked .given .1) (rw (back f0) at (c .before .before .ask-station .ensures))
+returns c =
+    let f : SFits w64 (c .before .before .before .before .before .asked .given .0 .1 .0) = search needs in
+    rw (c .before .before .before .before .before .asked .given .1) (rw (back f) at (c .before .before .tell-gas .ensures))
 
 same-length-2 : tie.Need-same-length-2
 same-length-2 c = search needs
@@ -44,12 +46,12 @@ same-length-3 c = search needs
 returns-3 : tie.Need-returns-3
 returns-3 c = rw (c .before .before .before .before .enum-told .given .1) (c .before .before .put-misfit .ensures)
 
-pub reply-station-spec : {M : Type 1} → statement M
-reply-station-spec =
+pub reply-gas-spec : {M : Type 1} → statement M
+reply-gas-spec =
     tie.close
     (tie.spec
     enum-known-asked
-    ask-station-requires
+    tell-gas-requires
     enum-known-asked-2
     put-refusal-requires
     enum-told

@@ -2,14 +2,14 @@ use Rattle.signed.specs.Zed.{back}
 use mir.Val.{SFits}
 use mir.Syntax.{w64}
 use borrow.Author.Needs.{needs}
-use Rattle.console.proofs.replies.reply_air_temperature.Statement.{statement}
-use Rattle.console.proofs.replies.reply_air_temperature.Tie as tie
+use Rattle.console.proofs.replies.reply_air.Statement.{statement}
+use Rattle.console.proofs.replies.reply_air.Tie as tie
 
-enum-known-numbers : tie.Need-enum-known-numbers
-enum-known-numbers c = search needs
+enum-known-number : tie.Need-enum-known-number
+enum-known-number c = search needs
 
-ask-psi-requires : tie.Need-ask-psi-requires
-ask-psi-requires c κs = search needs
+tell-air-requires : tie.Need-tell-air-requires
+tell-air-requires c κs = search needs
 
 enum-told : tie.Need-enum-told
 enum-told c = search needs
@@ -22,8 +22,8 @@ same-length c = search needs
 
 returns : tie.Need-returns
 returns c =
-    let f0 : SFits w64 (c .before .before .before .before .before .numbers .given .0 .0) = search needs in
-    rw (c .before .before .before .before .before .numbers .given .1) (rw (back f0) at (c .before .before .ask-psi .ensures))
+    let f : SFits w64 (c .before .before .before .before .before .number .given .0 .0) = search needs in
+    rw (c .before .before .before .before .before .number .given .1) (rw (back f) at (c .before .before .tell-air .ensures))
 
 same-length-2 : tie.Need-same-length-2
 same-length-2 c = search needs
@@ -31,12 +31,12 @@ same-length-2 c = search needs
 returns-2 : tie.Need-returns-2
 returns-2 c = rw (c .before .before .before .before .enum-told .given .1) (c .before .before .put-misfit .ensures)
 
-pub reply-air-temperature-spec : {M : Type 1} → statement M
-reply-air-temperature-spec =
+pub reply-air-spec : {M : Type 1} → statement M
+reply-air-spec =
     tie.close
     (tie.spec
-    enum-known-numbers
-    ask-psi-requires
+    enum-known-number
+    tell-air-requires
     enum-told
     put-misfit-requires
     same-length
