@@ -25,7 +25,7 @@ pub fn run() {
 
 // Does a job over the sheet that is named, or over the built-in one. It is judged once.
 fn over_sheet(job: Job, named: Named) {
-    let mut list = sheet::built_in::built_in();
+    let mut list = built_in::sheet();
     match named {
         Named::Nothing => {
             let verdict = sheet::judge_sheet(&list);

@@ -13,5 +13,3 @@ pub mod OneOutcome
 pub mod AnswersLaws
 pub mod ExampleSheets
 pub mod ExampleSheetsLaws
-pub mod BuiltIn
-pub mod BuiltInLaws

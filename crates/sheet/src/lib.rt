@@ -1,7 +1,6 @@
 // The gas sheet (document 01, "The gas sheet"): its text read into a list, and a list judged before it is used.
 // Every call takes every input. What an answer tells, in the paper's numbers (`paper` of specs/Answers.antt), is the first refusal of its order whose
 // condition holds. The conditions are of the text itself (specs/Text.antt) and of the list by kelvin (specs/Sheet.antt); a refusal leaves the list as it was.
-pub mod built_in;
 pub mod inner;
 mod judging;
 mod machine;

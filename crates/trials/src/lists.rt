@@ -129,7 +129,7 @@ fn over(a: u64, b: u64) -> u64 {
 
 // The built-in sheet, as far as the list reaches.
 fn fill_built_in(list: &mut [u32]) {
-    let sheet = sheet::built_in::built_in();
+    let sheet = built_in::sheet();
     copy(&sheet, list);
 }
 

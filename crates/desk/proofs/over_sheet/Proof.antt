@@ -6,8 +6,8 @@ use borrow.Author.Needs.{needs}
 use Rattle.desk.proofs.over_sheet.Statement.{statement}
 use Rattle.desk.proofs.over_sheet.Tie as tie
 
-built-in-requires : tie.Need-built-in-requires
-built-in-requires c κs = search needs
+sheet-requires : tie.Need-sheet-requires
+sheet-requires c κs = search needs
 
 enum-told : tie.Need-enum-told
 enum-told c = search needs
@@ -22,7 +22,7 @@ slice-aggregate-serve : tie.Need-slice-aggregate-serve
 slice-aggregate-serve c = search needs
 
 serve-requires : tie.Need-serve-requires
-serve-requires c κs = judged-of (c .before .before .before .before .before .built-in .result) (c .before .judge-sheet .result) (c .before .judge-sheet .ensures)
+serve-requires c κs = judged-of (c .before .before .before .before .before .sheet .result) (c .before .judge-sheet .result) (c .before .judge-sheet .ensures)
 
 enum-known-named : tie.Need-enum-known-named
 enum-known-named c = search needs
@@ -58,7 +58,7 @@ pub over-sheet-spec : {M : Type 1} → statement M
 over-sheet-spec =
     tie.close
     (tie.spec
-    built-in-requires
+    sheet-requires
     enum-told
     slice-aggregate-judge-sheet
     judge-sheet-requires

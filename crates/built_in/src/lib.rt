@@ -1,7 +1,7 @@
 // The sheet that comes with the product, from Table 5 of R. & M. 3099: O2, CO2 and H2O of 200 K, then of 201 K, and so on. It is
-// the list in specs/BuiltIn.antt. Made from data/table5-scan.tsv and data/table1-scan.tsv; to make it again, run tools/sheet.
+// promised to be the list in specs/BuiltIn.antt, which is accepted (specs/BuiltInLaws.antt). Made from data/table5-scan.tsv and data/table1-scan.tsv; to make it again, run tools/sheet.
 ghost use mathlib.Core.Path.{_≡_};
-ghost use Rattle.sheet.specs.BuiltIn.{builtIn};
+ghost use Rattle.built_in.specs.BuiltIn.{builtIn};
 
 const SHEET: [u32; 5403] = [
     4326,
@@ -5410,7 +5410,7 @@ const SHEET: [u32; 5403] = [
 ];
 
 // The built-in sheet as a list, row by row.
-pub fn built_in() -> [u32; 5403]
+pub fn sheet() -> [u32; 5403]
     ensures { λ r. ⌜ r ≡ builtIn ⌝ }
 {
     SHEET

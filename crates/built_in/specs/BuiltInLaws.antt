@@ -10,9 +10,9 @@ use borrow.Author.Tests.{leb-true, le-ltb}
 use Rattle.text.specs.ReadingLaws.{and-left, and-right}
 use Rattle.rows.specs.Rows.{rowsH}
 use Rattle.rows.specs.Table.{airH, column}
 use Rattle.sheet.specs.Sheet.{o2, co2, h2o, overLimit, breaksStep, badRow, Accepted}
 use Rattle.sheet.specs.SheetLaws.{over-no, step-kept}
-use Rattle.sheet.specs.BuiltIn.{builtIn}
+use Rattle.built_in.specs.BuiltIn.{builtIn}
 
 -- ---- the test: each row against the one before, with air's figures. Row 0 is held against a row of zeros, which asks no less than the rule does
 rowKeeps : ℕ → ℕ → ℕ → ℕ → ℕ → ℕ → ℕ → ℕ → Bool
