@@ -27,8 +27,8 @@ use Rattle.console.specs.declared.requests.Quantity.{Quantity}
 use Rattle.console.specs.declared.requests.Quantity.the-variants.{Heat, Content, Specific, Temperature, Station}
 use Rattle.console.specs.declared.requests.Asked.{Asked}
 use Rattle.console.specs.declared.requests.Asked.the-variants.{Of, Refused, Misfit}
-use Rattle.console.specs.Requests.{requestOf, askedOf}
-use Rattle.console.specs.Texts.{unknownText, misfitText, refusalText, toldText, readingText, inverseText, burntText, wholeText, figuresText}
+use Rattle.console.specs.Requests.{requestOf, askedOf, unknownText, misfitText}
+use Rattle.wording.specs.Texts.{refusalText, toldText, readingText, inverseText, burntText, wholeText, figuresText}
 use Rattle.console.specs.Marks.{markRequest}
 use Rattle.console.specs.Walks.{walkRequest}
 

@@ -1,102 +1,18 @@
--- The texts of answers from their parts: looks that places hold, numbers one after the other, a line by its first field. Assumes nothing.
-use Prim.Native.Nat.{ℕ, zero, suc, _+_, _-_, _*_, _≤_, _<_}
+-- A word, and a line by its first field. Assumes nothing.
+use Prim.Native.Nat.{ℕ, _+_, _-_}
 use mathlib.Core.Path.{_≡_, refl, sym, _∙_, ap}
 use mathlib.Core.Bool.{Bool, true, false, cond, true≢false}
-use mathlib.Core.List.{List, [], _∷_, _++_, map, append-assoc, append-nil}
+use mathlib.Core.List.{List, [], _∷_, _++_}
 use native.Mathlib.Omega.{arith}
-use native.Mathlib.Numerals.{add-one}
-use borrow.Author.Tests.{le-leb, eq-eqb, ne-eqb, eqb-true}
+use borrow.Author.Tests.{le-leb, eq-eqb, eqb-true}
 use lib.Dec.{leb, eqb}
-use lib.IntN.{ℤ, pos}
-use lib.ListN.{length, take, drop, getD, replicate, length-drop}
-use lib.Seq.{take-suc, drop-cons}
-use Rattle.signed.specs.Zed.{eqZ}
-use Rattle.text.specs.Decimal.{decimal}
+use lib.ListN.{length, take, drop}
 use Rattle.text.specs.ReadingLaws.{and-left, and-right}
 use Rattle.fields.specs.Fields.{spanOf, fieldsOf, fieldsFrom}
 use Rattle.fields.specs.FieldsLaws.{fields-at}
-use Rattle.air.specs.Halving.{halving, eleven}
-use Rattle.air.specs.HalvingLaws.{halving-ind}
-use Rattle.air.specs.Inverse.{fits, looks, Found, written}
-use Rattle.air.specs.declared.Refusal.{Refusal}
-use Rattle.air.specs.declared.Refusal.the-variants.{Plain, AtRow}
-use Rattle.air.specs.declared.PsiAnswer.{PsiAnswer}
-use Rattle.air.specs.Refusals.{Told, gives, refuses, refusesRow, refused}
-use Rattle.air.specs.Answers.{PsiInverse, paperPsi, psiInverseTold, psiValue}
 use Rattle.console.specs.Requests.{sameText, requestOf}
 use Rattle.sheet.specs.declared.SheetAnswer.{SheetAnswer}
-use Rattle.gas.specs.declared.Charge.{Charge}
-use Rattle.gas.specs.declared.TemperatureAnswer.{TemperatureAnswer}
-use Rattle.gas.specs.Burning.{document01, gasOf}
-use Rattle.gas.specs.Heat.{gasHeat}
-use Rattle.gas.specs.Answers.{paperTemperature, temperatureTold, Temperature}
-use Rattle.console.specs.Texts.{fieldsText, refusalText, toldText, used, inverseText}
 use Rattle.console.specs.Answers.{replyText, answerFields, answerOf}
-
--- looks before the first unused place
-module _ (l : List ℕ) (i : ℕ) (h : i < length l) where
-  pub used-none : getD l i 0 ≡ 0 → used (drop i l) ≡ []
-  used-none e = rw (drop-cons l i 0 h, eq-eqb (getD l i 0) 0 e) refl
-
-  pub used-more : (getD l i 0 ≡ 0 → ⊥) → used (drop i l) ≡ getD l i 0 ∷ used (drop (i + 1) l)
-  used-more e = rw (add-one i, drop-cons l i 0 h, ne-eqb (getD l i 0) 0 e) refl
-
-  -- one number more of a list
-  pub fields-more : fieldsText (map pos (take (i + 1) l)) ≡ fieldsText (map pos (take i l)) ++ (9 ∷ decimal (getD l i 0))
-  fields-more = rw (add-one i, take-suc l i 0 h) (snoc (take i l) (getD l i 0))
-    where
-      snoc : (ks : List ℕ) (k : ℕ) → fieldsText (map pos (ks ++ (k ∷ []))) ≡ fieldsText (map pos ks) ++ (9 ∷ decimal k)
-      snoc [] k = append-nil (9 ∷ decimal k)
-      snoc (j ∷ ks) k = ap (λ (t : List ℕ). (9 ∷ decimal j) ++ t) (snoc ks k) ∙ sym (append-assoc (9 ∷ decimal j) (fieldsText (map pos ks)) (9 ∷ decimal k))
-
-pub used-end : (l : List ℕ) (i : ℕ) → length l ≤ i → used (drop i l) ≡ []
-used-end l i h = none (drop i l) (omega (arith, length-drop i l))
-  where
-    none : (x : List ℕ) → length x ≡ 0 → used x ≡ []
-    none [] e = refl
-    none (a ∷ x) e = absurd (omega arith)
-
-pub used-most : (l : List ℕ) → length (used l) ≤ length l
-used-most [] = omega arith
-used-most (k ∷ ks) = go (eqb k 0) (used-most ks)
-  where
-    go : (t : Bool) → length (used ks) ≤ length ks → length (cond t [] (k ∷ used ks)) ≤ suc (length ks)
-    go true h = omega arith
-    go false h = omega arith
-
-pub used-first : (l : List ℕ) → take (length (used l)) l ≡ used l
-used-first [] = refl
-used-first (k ∷ ks) = go (eqb k 0) (used-first ks)
-  where
-    go : (t : Bool) → take (length (used ks)) ks ≡ used ks → take (length (cond t [] (k ∷ used ks))) (k ∷ ks) ≡ cond t [] (k ∷ used ks)
-    go true h = refl
-    go false h = ap (λ (x : List ℕ). k ∷ x) h
-
--- no look is 0, so the looks that a search writes are those that its places hold
-data Above : List ℕ → Type 0 where
-  none : Above []
-  next : {k : ℕ} {ks : List ℕ} → 0 < k → Above ks → Above (k ∷ ks)
-
-used-above : {ks : List ℕ} (n : ℕ) → Above ks → used (ks ++ replicate n 0) ≡ ks
-used-above zero none = refl
-used-above (suc n) none = refl
-used-above {ks} n (next {k} h a) = rw (ne-eqb k 0 (λ e. omega arith)) (ap (λ (x : List ℕ). k ∷ x) (used-above n a))
-
-halving-above : (p : ℕ → Bool) → Above (halving p 200 2000 .looks)
-halving-above p =
-    halving-ind p (λ lo hi s. 0 < lo → Above (s .looks))
-    (λ lo l. none)
-    (λ lo hi s w e h l. next (omega arith) (h (omega arith)))
-    (λ lo hi s w e h l. next (omega arith) (h l))
-    200 2000 (omega arith) (omega arith)
-
-pub used-eleven : (v : ℕ → ℤ) (t : ℤ) → used (eleven (looks v t)) ≡ looks v t
-unfolding eleven looks
-used-eleven v t = used-above (11 - length (looks v t)) (above (eqZ t (v 2000000)))
-  where
-    above : (b : Bool) → Above (cond b [] (halving (λ k. fits v t (1000 * k)) 200 2000 .looks))
-    above true = none
-    above false = halving-above (λ k. fits v t (1000 * k))
 
 -- words
 same-refl : (a : List ℕ) → sameText a a ≡ true
@@ -127,22 +43,3 @@ unfolding answerOf fieldsFrom
 answer-is verdict s line e q =
     let z : leb 0 (length line) ≡ true = le-leb 0 (length line) (omega arith) in
     ap (λ (fs : List (List ℕ)). answerFields verdict s fs ++ (10 ∷ [])) (sym (ap (λ (t : Bool). cond t (fieldsOf (drop 0 line)) []) z) ∙ fields-at line 0 e (omega arith) q)
-
--- a refusal in its text, whatever the values would be
-pub told-refused : {A : Type 0} (values : A → List ℕ) (r : Refusal) → toldText values (refused r) ≡ refusalText r
-told-refused values (Plain number) = refl
-told-refused values (AtRow number row) = refl
-
--- an inverse from the places that it was lent, eleven of them and all 0 before: they hold its looks
-pub inverse-shown : (v : ℕ → ℤ) (t : ℤ) (told : Told Found) → inverseText told (used (written told (looks v t) (replicate 11 0))) ≡ inverseText told (looks v t)
-inverse-shown v t (gives f) = ap (inverseText (gives f)) (ap used (append-nil (eleven (looks v t))) ∙ used-eleven v t)
-inverse-shown v t (refuses n) = refl
-inverse-shown v t (refusesRow n r) = refl
-
-pub psi-shown : {target : ℤ} {r : PsiAnswer} {after : List ℕ} → PsiInverse target (replicate 11 0) r after
-    → inverseText (paperPsi r) (used after) ≡ inverseText (psiInverseTold 11 target) (looks psiValue target)
-psi-shown {target} {r} p = rw (p .told, p .list) (inverse-shown psiValue target (psiInverseTold 11 target))
-
-pub temperature-shown : (ch : Charge) (target : ℤ) (s : List ℕ) {r : TemperatureAnswer} {after : List ℕ} → Temperature document01 ch target s (replicate 11 0) r after
-    → inverseText (paperTemperature r) (used after) ≡ inverseText (temperatureTold document01 ch target s 11) (looks (gasHeat document01 s (gasOf ch)) target)
-temperature-shown ch target s p = rw (p .told, p .list) (inverse-shown (gasHeat document01 s (gasOf ch)) target (temperatureTold document01 ch target s 11))

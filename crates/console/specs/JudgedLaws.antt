@@ -31,10 +31,10 @@ use Rattle.console.specs.declared.requests.Request.the-variants.{OfAir, 
 use Rattle.console.specs.declared.requests.Quantity.{Quantity}
 use Rattle.console.specs.declared.requests.Quantity.the-variants.{Heat, Content, Specific, Temperature, Station}
 use Rattle.console.specs.Requests.{requestOf, askedOf}
-use Rattle.console.specs.Texts.{refusalText, toldText, foundText, valueText, wholeText, figuresText}
+use Rattle.wording.specs.Texts.{refusalText, toldText, foundText, valueText, wholeText, figuresText}
 use Rattle.console.specs.Answers.{gasText, gasReply, replyText, answerFields, answerOf, Judged, Ready}
 use Rattle.console.specs.Walks.{walkTold, walkText, startOf, walkOf, printedWalk}
-use Rattle.console.specs.AnswersLaws.{told-refused}
+use Rattle.wording.specs.TextsLaws.{told-refused}
 
 -- past an accepted sheet: 4, 5 and 6 of a heat, and 4 and 5 of a search with eleven places
 module _ {s : List ℕ} (accepted : Accepted s) (w : Weights) (ch : Charge) where

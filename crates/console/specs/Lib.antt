@@ -1,5 +1,4 @@
 pub mod Requests
-pub mod Texts
 pub mod Marks
 pub mod Walks
 pub mod Shown

@@ -14,8 +14,8 @@ use Rattle.marking.specs.declared.Typed.{Typed}
 use Rattle.marking.specs.declared.Typed.the-variants.{Kelvins as TypedKelvins, Content as TypedContent, Blank as TypedBlank}
 use Rattle.console.specs.declared.marks.Kind.{Kind}
 use Rattle.console.specs.declared.marks.Kind.the-variants.{Kelvins, Content, Blank, Unknown}
-use Rattle.console.specs.Requests.{sameText}
-use Rattle.console.specs.Texts.{misfitText, markText}
+use Rattle.console.specs.Requests.{sameText, misfitText}
+use Rattle.wording.specs.Texts.{markText}
 
 -- kelvins
 abbrev pub kelvinsWord : List ℕ

@@ -1,4 +1,5 @@
--- The words that requests begin with (docs/PROGRAM.md), the request that each names, and what four numbers and a sheet's verdict come to.
+-- The words that requests begin with (docs/PROGRAM.md), the request that each names, what is answered to a line that is none, and what four numbers and a sheet's verdict
+-- come to.
 use Prim.Native.Nat.{ℕ}
 use mathlib.Core.Bool.{Bool, true, false, _&&_, cond}
 use mathlib.Core.List.{List, [], _∷_}
@@ -68,6 +69,14 @@ walkWord = 119 ∷ 97 ∷ 108 ∷ 107 ∷ []
 -- mark
 abbrev pub markWord : List ℕ
 markWord = 109 ∷ 97 ∷ 114 ∷ 107 ∷ []
+
+-- error, tab, no such request
+abbrev pub unknownText : List ℕ
+unknownText = 101 ∷ 114 ∷ 114 ∷ 111 ∷ 114 ∷ 9 ∷ 110 ∷ 111 ∷ 32 ∷ 115 ∷ 117 ∷ 99 ∷ 104 ∷ 32 ∷ 114 ∷ 101 ∷ 113 ∷ 117 ∷ 101 ∷ 115 ∷ 116 ∷ []
+
+-- error, tab, the request takes other fields
+abbrev pub misfitText : List ℕ
+misfitText = 101 ∷ 114 ∷ 114 ∷ 111 ∷ 114 ∷ 9 ∷ 116 ∷ 104 ∷ 101 ∷ 32 ∷ 114 ∷ 101 ∷ 113 ∷ 117 ∷ 101 ∷ 115 ∷ 116 ∷ 32 ∷ 116 ∷ 97 ∷ 107 ∷ 101 ∷ 115 ∷ 32 ∷ 111 ∷ 116 ∷ 104 ∷ 101 ∷ 114 ∷ 32 ∷ 102 ∷ 105 ∷ 101 ∷ 108 ∷ 100 ∷ 115 ∷ []
 
 -- the request of a word: on air, on a gas, on a page
 unfoldable pub otherRequest : List ℕ → Request

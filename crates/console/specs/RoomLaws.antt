@@ -37,7 +37,7 @@ use Rattle.air.specs.RefusalsLaws.{gives-clear, values-given}
 use Rattle.air.specs.OrdersLaws.{clear-left, clear-right}
 use Rattle.air.specs.Answers.{psiValue, psiOrder}
 use Rattle.air.specs.declared.Refusal.the-variants.{Plain, AtRow}
-use Rattle.console.specs.Texts.{okText, fieldsText, refusalText, toldText, countedText, foundText, valueText, figuresText, productsText, burntText, verdictText}
+use Rattle.wording.specs.Texts.{okText, fieldsText, refusalText, toldText, countedText, foundText, valueText, figuresText, productsText, burntText, verdictText, stateText, courseText}
 use Rattle.text.specs.ReadingLaws.{and-left, and-right}
 use Rattle.sheet.specs.Sheet.{Accepted, notLong, firstBadRow}
 use Rattle.sheet.specs.Answers.{paper, sheetLines, judgeTold, Form, sheetOf, noSheet, breaks, badRowOf, SheetRead}
@@ -75,7 +75,7 @@ use Rattle.console.specs.declared.requests.Reading.the-variants.{Heat as
 use Rattle.console.specs.declared.walks.Layout.the-variants.{Line as InLine, Page}
 use Rattle.console.specs.Requests.{askedOf, requestOf}
 use Rattle.console.specs.Marks.{kindOf, inUnit, markedText, numberText, typedText, kindText, markRequest}
-use Rattle.console.specs.Walks.{walkTold, stateText, courseText, stepsText, walkText, startOf, walkOf, endText, printedWalk}
+use Rattle.console.specs.Walks.{walkTold, stepsText, walkText, startOf, walkOf, endText, printedWalk}
 use Rattle.console.specs.Answers.{airText, airReply, burnText, gasText, gasReply, replyText, answerFields, answerOf}
 
 -- ---- numbers

@@ -10,8 +10,8 @@ use Rattle.air.specs.Refusals.{Told, gives, refuses, refusesRow}
 use Rattle.walk.specs.Walk.{Trace, Course, done, stopped}
 use Rattle.console.specs.declared.walks.Layout.{Layout}
 use Rattle.console.specs.declared.walks.Layout.the-variants.{Line, Page}
-use Rattle.console.specs.Texts.{toldText, used}
-use Rattle.console.specs.Walks.{courseText, stepText, walkText, headerText, endText, printedWalk}
+use Rattle.wording.specs.Texts.{toldText, used, courseText}
+use Rattle.console.specs.Walks.{stepText, walkText, headerText, endText, printedWalk}
 
 -- how many steps were done
 abbrev pub stepsIn : Told Course → ℕ

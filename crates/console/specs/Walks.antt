@@ -23,25 +23,13 @@ use Rattle.walk.specs.Step.{Out}
 use Rattle.walk.specs.Walk.{Trace, Course, done, stopped, walked, course, outsOf}
 use Rattle.console.specs.declared.walks.Layout.{Layout}
 use Rattle.console.specs.declared.walks.Layout.the-variants.{Line, Page}
-use Rattle.console.specs.Texts.{okText, refusedText, misfitText, toldText, countedText}
+use Rattle.wording.specs.Texts.{refusedText, toldText, countedText, courseText}
+use Rattle.console.specs.Requests.{misfitText}
 
 -- a walk with lists for 64 steps, over a sheet list and the verdict that it was given when it was read
 abbrev pub walkTold : SheetAnswer → List ℕ → Charge → ℤ → List ℤ → Told Trace
 walkTold Good s ch mk numbers = walked (sheetLines s) document01 s ch mk numbers 64 64 704
 walkTold (Refused r) s ch mk numbers = refused r
-
--- A, c, h, mK
-abbrev pub stateText : Charge → ℤ → List ℕ
-stateText ch mk = (((9 ∷ decimalZ (ch .air)) ++ (9 ∷ decimalZ (ch .carbon))) ++ (9 ∷ decimalZ (ch .hydrogen))) ++ (9 ∷ decimalZ mk)
-
--- stopped
-abbrev pub stoppedText : List ℕ
-stoppedText = 115 ∷ 116 ∷ 111 ∷ 112 ∷ 112 ∷ 101 ∷ 100 ∷ []
-
--- how a walk ended
-abbrev pub courseText : Course → List ℕ
-courseText (done n ch mk) = (okText ++ (9 ∷ decimal n)) ++ stateText ch mk
-courseText (stopped n number ch mk) = ((stoppedText ++ (9 ∷ decimal n)) ++ (9 ∷ decimal number)) ++ stateText ch mk
 
 -- a step in a line: mK, rest, number of looks, the looks
 abbrev pub inLine : ℤ → ℤ → List ℕ → List ℕ

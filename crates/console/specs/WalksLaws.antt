@@ -42,10 +42,11 @@ use Rattle.walk.specs.Walk.{Trace, End, ended, cut, run, width, stepsOf, wrongS
 use Rattle.walk.specs.RunLaws.{step-done, of-run}
 use Rattle.console.specs.declared.walks.Layout.{Layout}
 use Rattle.console.specs.declared.walks.Layout.the-variants.{Line, Page}
-use Rattle.console.specs.Texts.{misfitText, toldText, used}
-use Rattle.console.specs.Walks.{walkTold, courseText, stepText, stepsText, walkText, walkRequest, headerText, endText, printedWalk}
+use Rattle.wording.specs.Texts.{toldText, used, courseText}
+use Rattle.console.specs.Requests.{misfitText}
+use Rattle.console.specs.Walks.{walkTold, stepText, stepsText, walkText, walkRequest, headerText, endText, printedWalk}
 use Rattle.console.specs.Shown.{stepsIn, shown, walkShown, layoutText, Holds, heldOf}
-use Rattle.console.specs.AnswersLaws.{used-eleven}
+use Rattle.wording.specs.TextsLaws.{used-eleven}
 
 -- ---- the loop over the steps
 module _ (layout : Layout) (n : ℕ) (t r : List ℤ) (l : List ℕ) where

@@ -1,5 +1,4 @@
 // The requests `mark`: the typed answer read, its key and window, and the mark.
-use crate::inner;
 use crate::replies;
 use marking::Typed;
 use typed::Number;
@@ -48,7 +47,7 @@ fn put_marked(answer: Typed, line: &[u8], from: usize, out: &mut [u8], at: usize
     ensures { λ r. ⌜ Put (markedText answer (twoOf (fieldsFrom (now (line .entry)) from))) (now (out .entry)) at r (now (out .exit)) ⌝ }
 {
     match fields::read_two(line, from) {
-        fields::Two::Are(key, window) => inner::put_mark(
+        fields::Two::Are(key, window) => wording::put_mark(
             marking::mark(answer, key, window),
             out,
             at,

@@ -1,5 +1,4 @@
 // The reply to each request: its numbers read, the call of the layer below, its answer put. Each function is one definition of specs/Answers.antt.
-use crate::inner;
 use crate::judged;
 use crate::marks;
 use crate::requests;
@@ -20,7 +19,8 @@ ghost use Rattle.text.specs.Put.{Put};
 ghost use Rattle.sheet.specs.Sheet.{Accepted};
 ghost use Rattle.fields.specs.Fields.{fieldsFrom};
 ghost use Rattle.gas.specs.Answers.{paperBurn};
-ghost use Rattle.console.specs.Texts.{unknownText, misfitText, burntText};
+ghost use Rattle.wording.specs.Texts.{burntText};
+ghost use Rattle.console.specs.Requests.{unknownText, misfitText};
 ghost use Rattle.console.specs.Answers.{Judged, Ready, airText, airReply, burnText, gasText, gasReply, replyText};
 
 // No request begins with this word.
@@ -43,7 +43,7 @@ fn ask_psi(psi: i64, out: &mut [u8], at: usize) -> usize
 {
     let mut looks = [0u32; 11];
     let answer = air::psi_inverse(psi, &mut looks);
-    inner::put_psi(answer, &looks, out, at)
+    wording::put_psi(answer, &looks, out, at)
 }
 
 // The reading of air at a number: mK, kelvins or a psi.
@@ -51,9 +51,9 @@ fn tell_air(reading: Reading, number: i64, out: &mut [u8], at: usize) -> usize
     ensures { λ r. ⌜ Put (airText reading number) (now (out .entry)) at r (now (out .exit)) ⌝ }
 {
     match reading {
-        Reading::Heat => inner::put_reading(air::heat(Millikelvin(number)), out, at),
-        Reading::Psi => inner::put_reading(air::psi(Millikelvin(number)), out, at),
-        Reading::Cp => inner::put_reading(air::cp(number), out, at),
+        Reading::Heat => wording::put_reading(air::heat(Millikelvin(number)), out, at),
+        Reading::Psi => wording::put_reading(air::psi(Millikelvin(number)), out, at),
+        Reading::Cp => wording::put_reading(air::cp(number), out, at),
         Reading::Temperature => ask_psi(number, out, at),
     }
 }
@@ -73,8 +73,8 @@ fn put_burnt(answer: BurnAnswer, out: &mut [u8], at: usize) -> usize
     ensures { λ r. ⌜ Put (burntText (paperBurn answer)) (now (out .entry)) at r (now (out .exit)) ⌝ }
 {
     match answer {
-        BurnAnswer::Is(products) => inner::put_products(products, out, at),
-        BurnAnswer::Refused(refusal) => inner::put_refusal(refusal, out, at),
+        BurnAnswer::Is(products) => wording::put_products(products, out, at),
+        BurnAnswer::Refused(refusal) => wording::put_refusal(refusal, out, at),
     }
 }
 
@@ -95,7 +95,7 @@ fn ask_temperature(charge: Charge, target: i64, sheet: &[u32], out: &mut [u8], a
 {
     let mut looks = [0u32; 11];
     let answer = judged::temperature(charge, Heat(target), sheet, &mut looks);
-    inner::put_temperature(answer, &looks, out, at)
+    wording::put_temperature(answer, &looks, out, at)
 }
 
 // The figures of a charge at a temperature, as whole numbers.
@@ -108,11 +108,11 @@ fn ask_station(charge: Charge, mk: i64, sheet: &[u32], out: &mut [u8], at: usize
             let air = rows::columns::heat_column();
             let specific = gas::inner::specific_at(gas, Millikelvin(mk), sheet, &air);
             let ok = text::put_text(b"ok", out, at);
-            let next = inner::put_signed(mk, out, ok);
-            let after = inner::put_signed(specific, out, next);
-            inner::put_number(gas::inner::total_mass(gas), out, after)
+            let next = wording::put_signed(mk, out, ok);
+            let after = wording::put_signed(specific, out, next);
+            wording::put_number(gas::inner::total_mass(gas), out, after)
         }
-        Admitted::Refused(refusal) => inner::put_refusal(refusal, out, at),
+        Admitted::Refused(refusal) => wording::put_refusal(refusal, out, at),
     }
 }
 
@@ -130,17 +130,17 @@ fn tell_gas(
 {
     match quantity {
         Quantity::Heat => {
-            inner::put_heat(
+            wording::put_heat(
                 judged::gas_heat(charge, Millikelvin(number), sheet),
                 out,
                 at,
             )
         }
         Quantity::Content => {
-            inner::put_heat(judged::content(charge, Millikelvin(number), sheet), out, at)
+            wording::put_heat(judged::content(charge, Millikelvin(number), sheet), out, at)
         }
         Quantity::Specific => {
-            inner::put_specific(
+            wording::put_specific(
                 judged::specific_content(charge, Millikelvin(number), sheet),
                 out,
                 at,
@@ -158,7 +158,7 @@ fn reply_gas(quantity: Quantity, asked: Asked, sheet: &[u32], out: &mut [u8], at
 {
     match asked {
         Asked::Of(charge, number) => tell_gas(quantity, charge, number, sheet, out, at),
-        Asked::Refused(refusal) => inner::put_refusal(refusal, out, at),
+        Asked::Refused(refusal) => wording::put_refusal(refusal, out, at),
         Asked::Misfit => put_misfit(out, at),
     }
 }

@@ -1,5 +1,4 @@
 // Walks as the console shows them: in a line, as the answer to a request, or on a page, as document 01 prints one (specs/Walks.antt). One loop puts the steps of both.
-use crate::inner;
 use crate::replies;
 use air::Millikelvin;
 use air::Refusal;
@@ -13,7 +12,7 @@ ghost use lib.ListN.{length};
 ghost use Rattle.text.specs.Put.{Put};
 ghost use Rattle.fields.specs.Fields.{fieldsFrom};
 ghost use Rattle.walk.specs.Walk.{paperWalk, Walks};
-ghost use Rattle.console.specs.Texts.{used};
+ghost use Rattle.wording.specs.Texts.{used};
 ghost use Rattle.console.specs.Walks.{walkTold, inLine, onPage, stepText, refusedLine, endText, walkRequest};
 ghost use Rattle.console.specs.Shown.{stepsIn, shown, walkShown, layoutText, heldOf, Holds};
 ghost use Rattle.console.specs.Answers.{Judged};
@@ -39,9 +38,9 @@ fn steps_done(answer: WalkAnswer) -> usize
 fn put_in_line(mk: i64, rest: i64, looks: &[u32], out: &mut [u8], at: usize) -> usize
     ensures { λ r. ⌜ Put (inLine mk rest (used (now (looks .entry)))) (now (out .entry)) at r (now (out .exit)) ⌝ }
 {
-    let next = inner::put_signed(mk, out, at);
-    let after = inner::put_signed(rest, out, next);
-    inner::put_looks(looks, out, after)
+    let next = wording::put_signed(mk, out, at);
+    let after = wording::put_signed(rest, out, next);
+    wording::put_looks(looks, out, after)
 }
 
 // A step on a page: its number, mK, rest and the number of looks that its places hold.
@@ -49,9 +48,9 @@ fn put_on_page(number: usize, mk: i64, rest: i64, looks: &[u32], out: &mut [u8],
     ensures { λ r. ⌜ Put (onPage number mk rest (used (now (looks .entry)))) (now (out .entry)) at r (now (out .exit)) ⌝ }
 {
     let start = text::put_decimal(number as u64, out, at);
-    let next = inner::put_signed(mk, out, start);
-    let after = inner::put_signed(rest, out, next);
-    let last = inner::put_number(inner::count_looks(looks) as u64, out, after);
+    let next = wording::put_signed(mk, out, start);
+    let after = wording::put_signed(rest, out, next);
+    let last = wording::put_number(wording::count_looks(looks) as u64, out, after);
     text::put_byte(10, out, last)
 }
 
@@ -110,7 +109,7 @@ fn put_refused(number: u32, out: &mut [u8], at: usize) -> usize
     ensures { λ r. ⌜ Put (refusedLine number) (now (out .entry)) at r (now (out .exit)) ⌝ }
 {
     let word = text::put_text(b"refused", out, at);
-    let next = inner::put_number(number as u64, out, word);
+    let next = wording::put_number(number as u64, out, word);
     text::put_byte(10, out, next)
 }
 
@@ -141,7 +140,7 @@ fn put_line(
     requires { ⌜ Holds (stepsIn (paperWalk answer)) (now temperatures) (now rests) (now looks) ⌝ }
     ensures { λ r. ⌜ Put (walkShown Layout.Line (paperWalk answer) (now (temperatures .entry)) (now (rests .entry)) (now (looks .entry))) (now (out .entry)) at r (now (out .exit)) ⌝ }
 {
-    let next = inner::put_course(answer, out, at);
+    let next = wording::put_course(answer, out, at);
     let n = steps_done(answer);
     put_steps(Layout::Line, n, temperatures, rests, looks, out, next)
 }

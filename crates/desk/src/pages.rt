@@ -70,6 +70,6 @@ pub(crate) fn print_verdict(verdict: SheetAnswer) {
 fn put_verdict(verdict: SheetAnswer, out: &mut [u8]) -> usize {
     match verdict {
         SheetAnswer::Good => text::put_text(b"accepted", out, 0),
-        SheetAnswer::Refused(refusal) => console::inner::put_refusal(refusal, out, 0),
+        SheetAnswer::Refused(refusal) => wording::put_refusal(refusal, out, 0),
     }
 }

@@ -16,7 +16,7 @@ pub(crate) fn number_of(refusal: Refusal) -> u32 {
 // A reading after a tab; a refused one is minus its number.
 fn put_figure(reading: Reading, out: &mut [u8], at: usize) -> usize {
     match reading {
-        Reading::Is(n) => console::inner::put_number(n, out, at),
+        Reading::Is(n) => wording::put_number(n, out, at),
         Reading::Refused(refusal) => {
             let next = text::put_text(b"\t-", out, at);
             text::put_decimal(number_of(refusal) as u64, out, next)

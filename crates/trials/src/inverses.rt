@@ -57,8 +57,8 @@ fn put_psi(psi: i64, list: &mut [u32], out: &mut [u8], at: usize) -> usize {
     lists::fill_pattern(list);
     let answer = air::psi_inverse(psi, list);
     let end = shown(list);
-    let next = console::inner::put_psi(answer, &list[0..end], out, at);
-    console::inner::put_number(lists::sum_from(0, list), out, next)
+    let next = wording::put_psi(answer, &list[0..end], out, at);
+    wording::put_number(lists::sum_from(0, list), out, next)
 }
 
 // air-temperature-into n psi
@@ -80,8 +80,8 @@ fn put_heat(
     lists::fill_pattern(list);
     let answer = gas::temperature(charge, Heat(target), sheet, list);
     let end = shown(list);
-    let next = console::inner::put_temperature(answer, &list[0..end], out, at);
-    console::inner::put_number(lists::sum_from(0, list), out, next)
+    let next = wording::put_temperature(answer, &list[0..end], out, at);
+    wording::put_number(lists::sum_from(0, list), out, next)
 }
 
 // temperature-into n A c h target
@@ -182,7 +182,7 @@ pub(crate) fn put_block(
     let count = lists::bounded(lists::number_at(numbers, from + 2), 1_000_000);
     let block = ask_block(inverse, first, apart, count, sheet);
     let ok = text::put_text(b"ok", out, at);
-    let answered = console::inner::put_number(block.answered, out, ok);
-    let refused = console::inner::put_number(block.refused, out, answered);
-    console::inner::put_number(block.sum, out, refused)
+    let answered = wording::put_number(block.answered, out, ok);
+    let refused = wording::put_number(block.refused, out, answered);
+    wording::put_number(block.sum, out, refused)
 }

@@ -172,9 +172,9 @@ fn put_row(list: &[u32], row: usize, buf: &mut [u8], at: usize) -> usize
     requires { ⌜ row < 1801 ⌝ }
 {
     let kelvin = text::put_decimal(200 + row as u64, buf, at);
-    let o2 = console::inner::put_number(value_at(list, 3 * row), buf, kelvin);
-    let co2 = console::inner::put_number(value_at(list, 3 * row + 1), buf, o2);
-    let h2o = console::inner::put_number(value_at(list, 3 * row + 2), buf, co2);
+    let o2 = wording::put_number(value_at(list, 3 * row), buf, kelvin);
+    let co2 = wording::put_number(value_at(list, 3 * row + 1), buf, o2);
+    let h2o = wording::put_number(value_at(list, 3 * row + 2), buf, co2);
     text::put_byte(10, buf, h2o)
 }
 

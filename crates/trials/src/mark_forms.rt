@@ -20,16 +20,16 @@ fn bits_of(x: f64) -> u64 {
 // `ok` and the bits of three figures.
 fn put_bits(figure: StationFigure, out: &mut [u8], at: usize) -> usize {
     let ok = text::put_text(b"ok", out, at);
-    let mk = console::inner::put_number(bits_of(figure.millikelvin), out, ok);
-    let content = console::inner::put_number(bits_of(figure.content), out, mk);
-    console::inner::put_number(bits_of(figure.mass), out, content)
+    let mk = wording::put_number(bits_of(figure.millikelvin), out, ok);
+    let content = wording::put_number(bits_of(figure.content), out, mk);
+    wording::put_number(bits_of(figure.mass), out, content)
 }
 
 // A station's figures, or the refusal.
 fn put_station(answer: StationAnswer, out: &mut [u8], at: usize) -> usize {
     match answer {
         StationAnswer::Is(figure) => put_bits(figure, out, at),
-        StationAnswer::Refused(refusal) => console::inner::put_refusal(refusal, out, at),
+        StationAnswer::Refused(refusal) => wording::put_refusal(refusal, out, at),
     }
 }
 
@@ -62,7 +62,7 @@ pub(crate) fn put_differences(numbers: &[i64], sheet: &[u32], out: &mut [u8], at
     };
     match station_at(numbers, 4, sheet) {
         StationAnswer::Is(other) => put_bits(less(one, other), out, at),
-        StationAnswer::Refused(refusal) => console::inner::put_refusal(refusal, out, at),
+        StationAnswer::Refused(refusal) => wording::put_refusal(refusal, out, at),
     }
 }
 
@@ -170,8 +170,8 @@ pub(crate) fn put_grid(numbers: &[i64], out: &mut [u8], at: usize) -> usize {
         window: lists::number_at(numbers, 6),
     });
     let ok = text::put_text(b"ok", out, at);
-    let counts = console::inner::put_number(tally.counts, out, ok);
-    let misses = console::inner::put_number(tally.misses, out, counts);
-    let refused = console::inner::put_number(tally.refused, out, misses);
-    console::inner::put_number(tally.sum, out, refused)
+    let counts = wording::put_number(tally.counts, out, ok);
+    let misses = wording::put_number(tally.misses, out, counts);
+    let refused = wording::put_number(tally.refused, out, misses);
+    wording::put_number(tally.sum, out, refused)
 }

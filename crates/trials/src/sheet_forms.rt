@@ -6,7 +6,7 @@ use sheet::SheetAnswer;
 fn put_verdict(answer: SheetAnswer, out: &mut [u8], at: usize) -> usize {
     match answer {
         SheetAnswer::Good => text::put_text(b"ok", out, at),
-        SheetAnswer::Refused(refusal) => console::inner::put_refusal(refusal, out, at),
+        SheetAnswer::Refused(refusal) => wording::put_refusal(refusal, out, at),
     }
 }
 
@@ -29,7 +29,7 @@ fn put_read(text: &[u8], list: &mut [u32], out: &mut [u8], at: usize) -> usize {
     lists::fill_pattern(list);
     let answer = sheet::read_sheet(text, list);
     let next = put_verdict(answer, out, at);
-    console::inner::put_number(lists::sum_from(0, list), out, next)
+    wording::put_number(lists::sum_from(0, list), out, next)
 }
 
 // Reads a base text, edited by the numbers, into the list.

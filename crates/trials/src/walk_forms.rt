@@ -12,9 +12,9 @@ fn put_sums(
     out: &mut [u8],
     at: usize,
 ) -> usize {
-    let first = console::inner::put_number(lists::sum_numbers(temperatures), out, at);
-    let second = console::inner::put_number(lists::sum_numbers(rests), out, first);
-    console::inner::put_number(lists::sum_from(0, looks), out, second)
+    let first = wording::put_number(lists::sum_numbers(temperatures), out, at);
+    let second = wording::put_number(lists::sum_numbers(rests), out, first);
+    wording::put_number(lists::sum_from(0, looks), out, second)
 }
 
 // A walk into lent lists: how it ended, and the sums of the three.
@@ -30,7 +30,7 @@ fn put_walked(
     at: usize,
 ) -> usize {
     let answer = walk::walk(charge, t, sheet, steps, temperatures, rests, looks);
-    let told = console::inner::put_course(answer, out, at);
+    let told = wording::put_course(answer, out, at);
     put_sums(temperatures, rests, looks, out, told)
 }
 

@@ -1,4 +1,4 @@
-use Rattle.console.specs.AnswersLaws.{psi-shown}
+use Rattle.wording.specs.TextsLaws.{psi-shown}
 use Rattle.signed.specs.Zed.{back}
 use borrow.Author.Needs.{needs}
 use Rattle.console.proofs.replies.ask_psi.Statement.{statement}

@@ -1,6 +1,6 @@
-use Rattle.console.specs.AnswersLaws.{told-refused}
+use Rattle.wording.specs.TextsLaws.{told-refused}
 use Rattle.console.specs.JudgedLaws.{past-heat}
-use Rattle.console.specs.Texts.{Figures, figuresText, toldText}
+use Rattle.wording.specs.Texts.{Figures, figuresText, toldText}
 use Rattle.marking.specs.Figures.{stationSpecific, stationMass}
 use Rattle.gas.specs.AnswersLaws.{readable-of}
 use Rattle.gas.specs.Answers.{paperGas, heatOrder}

@@ -1,4 +1,4 @@
-use Rattle.console.specs.AnswersLaws.{temperature-shown}
+use Rattle.wording.specs.TextsLaws.{temperature-shown}
 use Rattle.signed.specs.Zed.{back}
 use borrow.Author.Needs.{needs}
 use Rattle.console.proofs.replies.ask_temperature.Statement.{statement}

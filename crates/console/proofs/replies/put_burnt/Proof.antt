@@ -1,4 +1,4 @@
-use Rattle.console.specs.AnswersLaws.{told-refused}
+use Rattle.wording.specs.TextsLaws.{told-refused}
 use borrow.Author.Needs.{needs}
 use Rattle.console.proofs.replies.put_burnt.Statement.{statement}
 use Rattle.console.proofs.replies.put_burnt.Tie as tie

@@ -1,0 +1,20 @@
+use Rattle.signed.specs.Zed.{back}
+use Rattle.text.specs.PutLaws.{put-then}
+use borrow.Author.Needs.{needs}
+use Rattle.wording.proofs.put_signed.Statement.{statement}
+use Rattle.wording.proofs.put_signed.Tie as tie
+
+put-byte-requires : tie.Need-put-byte-requires
+put-byte-requires c κs = search needs
+
+put-whole-requires : tie.Need-put-whole-requires
+put-whole-requires c κs = search needs
+
+same-length : tie.Need-same-length
+same-length c = search needs
+
+returns : tie.Need-returns
+returns c = put-then (c .before .before .before .before .before .before .put-byte .ensures) (rw (back (c .before .before .before .before .before .before .before .before .before .fits .z)) at (c .before .before .put-whole .ensures))
+
+pub put-signed-spec : {M : Type 1} → statement M
+put-signed-spec = tie.close (tie.spec put-byte-requires put-whole-requires same-length returns)

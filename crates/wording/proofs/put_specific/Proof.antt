@@ -1,0 +1,55 @@
+use Rattle.signed.specs.Zed.{back}
+use mir.Val.{SFits}
+use mir.Syntax.{w64}
+use Rattle.wording.specs.TextsLaws.{told-refused}
+use Rattle.text.specs.PutLaws.{put-then}
+use borrow.Author.Needs.{needs}
+use Rattle.wording.proofs.put_specific.Statement.{statement}
+use Rattle.wording.proofs.put_specific.Tie as tie
+
+enum-known-answer : tie.Need-enum-known-answer
+enum-known-answer c = search needs
+
+slice-aggregate-put-text : tie.Need-slice-aggregate-put-text
+slice-aggregate-put-text c = search needs
+
+put-text-requires : tie.Need-put-text-requires
+put-text-requires c κs = search needs
+
+put-signed-requires : tie.Need-put-signed-requires
+put-signed-requires c κs = search needs
+
+enum-known-answer-2 : tie.Need-enum-known-answer-2
+enum-known-answer-2 c = search needs
+
+put-refusal-requires : tie.Need-put-refusal-requires
+put-refusal-requires c κs = search needs
+
+same-length : tie.Need-same-length
+same-length c = search needs
+
+returns : tie.Need-returns
+returns c =
+    let f0 : SFits w64 (c .before .before .before .before .before .before .before .before .before .before .answer .given .0 .0) = search needs in
+    rw (c .before .before .before .before .before .before .before .before .before .before .answer .given .1) (rw (back f0) at (put-then (c .before .before .before .before .before .before .put-text .ensures) (c .before .before .put-signed .ensures)))
+
+same-length-2 : tie.Need-same-length-2
+same-length-2 c = search needs
+
+returns-2 : tie.Need-returns-2
+returns-2 c = rw (c .before .before .before .before .before .answer2 .given .1, told-refused) (c .before .before .put-refusal .ensures)
+
+pub put-specific-spec : {M : Type 1} → statement M
+put-specific-spec =
+    tie.close
+    (tie.spec
+    enum-known-answer
+    slice-aggregate-put-text
+    put-text-requires
+    put-signed-requires
+    enum-known-answer-2
+    put-refusal-requires
+    same-length
+    returns
+    same-length-2
+    returns-2)

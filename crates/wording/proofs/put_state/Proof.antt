@@ -1,0 +1,41 @@
+use Rattle.text.specs.PutLaws.{put-then}
+use mir.Syntax.{w64}
+use mir.Val.{SFits}
+use Rattle.signed.specs.Zed.{back}
+use borrow.Author.Needs.{needs}
+use Rattle.wording.proofs.put_state.Statement.{statement}
+use Rattle.wording.proofs.put_state.Tie as tie
+
+put-signed-requires : tie.Need-put-signed-requires
+put-signed-requires c κs = search needs
+
+put-signed-requires-2 : tie.Need-put-signed-requires-2
+put-signed-requires-2 c κs = search needs
+
+put-signed-requires-3 : tie.Need-put-signed-requires-3
+put-signed-requires-3 c κs = search needs
+
+put-signed-requires-4 : tie.Need-put-signed-requires-4
+put-signed-requires-4 c κs = search needs
+
+same-length : tie.Need-same-length
+same-length c = search needs
+
+returns : tie.Need-returns
+returns c =
+    let f0 : SFits w64 ((c .before .before .before .before .before .before .before .before .before .before .before .before .before .before .before .before .before .before .before .before .before .args .charge) .air) = search needs in
+    let f1 : SFits w64 ((c .before .before .before .before .before .before .before .before .before .before .before .before .before .before .before .before .before .before .before .before .before .args .charge) .carbon) = search needs in
+    let f2 : SFits w64 ((c .before .before .before .before .before .before .before .before .before .before .before .before .before .before .before .before .before .before .before .before .before .args .charge) .hydrogen) = search needs in
+    let f3 : SFits w64 ((c .before .before .before .before .before .before .before .before .before .before .before .before .before .before .before .before .before .before .before .before .before .args .t) .0) = search needs in
+    put-then (put-then (put-then (rw (back f0) at (c .before .before .before .before .before .before .before .before .before .before .before .before .before .before .before .before .before .put-signed .ensures)) (rw (back f1) at (c .before .before .before .before .before .before .before .before .before .before .before .before .put-signed2 .ensures))) (rw (back f2) at (c .before .before .before .before .before .before .before .put-signed3 .ensures))) (rw (back f3) at (c .before .before .put-signed4 .ensures))
+
+pub put-state-spec : {M : Type 1} → statement M
+put-state-spec =
+    tie.close
+    (tie.spec
+    put-signed-requires
+    put-signed-requires-2
+    put-signed-requires-3
+    put-signed-requires-4
+    same-length
+    returns)

@@ -1,0 +1,114 @@
+-- The texts of answers (docs/PROGRAM.md): `ok` and the numbers, `refused` with the number and, for 2 and 3, the row, `stopped`, `counts` or `misses`; fields parted by
+-- tabs. The numbers are those that the calls of the layers below tell.
+use Prim.Native.Nat.{ℕ}
+use mathlib.Core.Bool.{Bool, true, false, cond}
+use mathlib.Core.List.{List, [], _∷_, _++_, map}
+use lib.Dec.{eqb}
+use lib.IntN.{ℤ, pos}
+use lib.ListN.{length}
+use Rattle.text.specs.Decimal.{decimal, decimalZ}
+use Rattle.air.specs.declared.Refusal.{Refusal}
+use Rattle.air.specs.declared.Refusal.the-variants.{Plain, AtRow}
+use Rattle.air.specs.Refusals.{Told, gives, refuses, refusesRow}
+use Rattle.air.specs.Inverse.{Found}
+use Rattle.gas.specs.declared.Products.{Products}
+use Rattle.gas.specs.declared.Charge.{Charge}
+use Rattle.walk.specs.Walk.{Course, done, stopped}
+
+-- ok
+abbrev pub okText : List ℕ
+okText = 111 ∷ 107 ∷ []
+
+-- refused
+abbrev pub refusedText : List ℕ
+refusedText = 114 ∷ 101 ∷ 102 ∷ 117 ∷ 115 ∷ 101 ∷ 100 ∷ []
+
+-- numbers, a tab before each
+abbrev pub fieldsText : List ℤ → List ℕ
+fieldsText [] = []
+fieldsText (z ∷ zs) = (9 ∷ decimalZ z) ++ fieldsText zs
+
+-- a refusal: its number and, where there is one, its row
+abbrev pub refusalText : Refusal → List ℕ
+refusalText (Plain number) = refusedText ++ (9 ∷ decimal number)
+refusalText (AtRow number row) = (refusedText ++ (9 ∷ decimal number)) ++ (9 ∷ decimal row)
+
+-- what a call tells: its values in their text, or the refusal
+abbrev pub toldText : {A : Type 0} → (A → List ℕ) → Told A → List ℕ
+toldText values (gives a) = values a
+toldText values (refuses number) = refusalText (Plain number)
+toldText values (refusesRow number row) = refusalText (AtRow number row)
+
+-- a reading of the air table
+abbrev pub readingText : Told ℕ → List ℕ
+readingText = toldText (λ n. okText ++ (9 ∷ decimal n))
+
+-- the looks that eleven places hold: those before the first 0
+abbrev pub used : List ℕ → List ℕ
+used [] = []
+used (k ∷ ks) = cond (eqb k 0) [] (k ∷ used ks)
+
+-- the number of looks, and the looks
+abbrev pub countedText : List ℕ → List ℕ
+countedText ks = (9 ∷ decimal (length ks)) ++ fieldsText (map pos ks)
+
+-- an inverse: mK, rest, number of looks, the looks
+abbrev pub foundText : List ℕ → Found → List ℕ
+foundText ks f = ((okText ++ (9 ∷ decimalZ (f .mk))) ++ (9 ∷ decimalZ (f .left))) ++ countedText ks
+
+abbrev pub inverseText : Told Found → List ℕ → List ℕ
+inverseText told ks = toldText (foundText ks) told
+
+-- a gas heat, a content, a specific content
+abbrev pub valueText : ℤ → List ℕ
+valueText z = okText ++ (9 ∷ decimalZ z)
+
+abbrev pub wholeText : Told ℤ → List ℕ
+wholeText = toldText valueText
+
+-- a station's figures, whole numbers all: mK, specific content, total mass
+pub record Figures : Type 0 where
+  pub mk : ℤ
+  pub specific : ℤ
+  pub mass : ℤ
+
+abbrev pub figuresText : Figures → List ℕ
+figuresText f = ((okText ++ (9 ∷ decimalZ (f .mk))) ++ (9 ∷ decimalZ (f .specific))) ++ (9 ∷ decimalZ (f .mass))
+
+-- the products of a charge: CO2, H2O, O2, N2, Ar
+abbrev pub productsText : Products → List ℕ
+productsText p =
+    ((((okText ++ (9 ∷ decimal (p .co2))) ++ (9 ∷ decimal (p .h2o))) ++ (9 ∷ decimal (p .o2))) ++ (9 ∷ decimal (p .n2))) ++ (9 ∷ decimal (p .ar))
+
+abbrev pub burntText : Told Products → List ℕ
+burntText = toldText productsText
+
+-- counts
+abbrev pub countsText : List ℕ
+countsText = 99 ∷ 111 ∷ 117 ∷ 110 ∷ 116 ∷ 115 ∷ []
+
+-- misses
+abbrev pub missesText : List ℕ
+missesText = 109 ∷ 105 ∷ 115 ∷ 115 ∷ 101 ∷ 115 ∷ []
+
+-- a mark
+abbrev pub verdictText : Bool → List ℕ
+verdictText true = countsText
+verdictText false = missesText
+
+abbrev pub markText : Told Bool → List ℕ
+markText = toldText verdictText
+
+-- ---- a walk
+-- A, c, h, mK
+abbrev pub stateText : Charge → ℤ → List ℕ
+stateText ch mk = (((9 ∷ decimalZ (ch .air)) ++ (9 ∷ decimalZ (ch .carbon))) ++ (9 ∷ decimalZ (ch .hydrogen))) ++ (9 ∷ decimalZ mk)
+
+-- stopped
+abbrev pub stoppedText : List ℕ
+stoppedText = 115 ∷ 116 ∷ 111 ∷ 112 ∷ 112 ∷ 101 ∷ 100 ∷ []
+
+-- how a walk ended
+abbrev pub courseText : Course → List ℕ
+courseText (done n ch mk) = (okText ++ (9 ∷ decimal n)) ++ stateText ch mk
+courseText (stopped n number ch mk) = ((stoppedText ++ (9 ∷ decimal n)) ++ (9 ∷ decimal number)) ++ stateText ch mk
