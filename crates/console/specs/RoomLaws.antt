@@ -2,7 +2,7 @@
 -- longest: 100 bytes a step, and its course. Assumes nothing.
 use Prim.Native.Nat.{ℕ, zero, suc, _+_, _-_, _*_, _/_, _%_, _≤_, _<_}
 use mathlib.Core.Path.{_≡_, refl, sym, ap, subst}
-use mathlib.Core.Bool.{Bool, true, false, not, _||_, _&&_, cond}
+use mathlib.Core.Bool.{Bool, true, false, not, _&&_, cond}
 use mathlib.Core.List.{List, [], _∷_, _++_, map, append-nil}
 use native.Mathlib.Nat.{mul-le-mul}
 use native.Mathlib.Omega.{arith}
@@ -33,7 +33,7 @@ use Rattle.air.specs.HalvingLaws.{halving-ind}
 use Rattle.air.specs.Inverse.{fits, temperature, rest, looks, unreached, found}
 use Rattle.air.specs.InverseLaws.{looks-most, temperature-most, temperature-least, rest-least}
 use Rattle.air.specs.Refusals.{Told, gives, refuses, refusesRow, Line, _when_, _on-row_when_, first, Clear, clear, none as nothing, andThen}
-use Rattle.air.specs.RefusalsLaws.{gives-clear, values-given}
+use Rattle.air.specs.RefusalsLaws.{neither, gives-clear, values-given}
 use Rattle.air.specs.OrdersLaws.{clear-left, clear-right}
 use Rattle.air.specs.Answers.{psiValue, psiOrder}
 use Rattle.air.specs.declared.Refusal.the-variants.{Plain, AtRow}
@@ -67,7 +67,6 @@ use Rattle.console.specs.declared.marks.Kind.{Kind}
 use Rattle.console.specs.declared.marks.Kind.the-variants.{Kelvins, Content as KindContent, Blank, Unknown as KindUnknown}
 use Rattle.console.specs.declared.requests.Quantity.{Quantity}
 use Rattle.console.specs.declared.requests.Quantity.the-variants.{Heat, Content, Specific, Temperature, Station}
-use Rattle.console.specs.declared.requests.Asked.the-variants.{Of}
 use Rattle.console.specs.declared.requests.Request.{Request}
 use Rattle.console.specs.declared.requests.Request.the-variants.{OfAir, Burn, OfGas, Walk, Mark, Unknown}
 use Rattle.console.specs.declared.requests.Reading.{Reading}
@@ -163,46 +162,36 @@ plain-most n h = omega (arith, small-most n h)
 row-text-most : (n r : ℕ) → n < 100 → r < 10000 → length (refusalText (AtRow n r)) ≤ 15
 row-text-most n r h k = let e = length-append (decimal n) (9 ∷ decimal r) in omega (arith, small-most n h, row-most r k)
 
+-- the number of a refusal that is told, and its row where it has one, are small
+abbrev Small : {A : Type 0} → Told A → Type 0
+Small (gives a) = Unit {0}
+Small (refuses n) = n < 100
+Small (refusesRow n r) = (n < 100) × (r < 10000)
+
+small-first : {A : Type 0} (ls : List Line) (a : A) → Few ls → Small (first ls a)
+small-first [] a few-none = tt
+small-first {A} (n when c ∷ ls) a (plain h f) = go c (small-first ls a f)
+  where
+    go : (b : Bool) → Small (first {A = A} ls a) → Small (cond b (refuses n) (first {A = A} ls a))
+    go true i = h
+    go false i = i
+small-first {A} (n on-row r when c ∷ ls) a (row h k f) = go c refl (small-first ls a f)
+  where
+    go : (b : Bool) → c ≡ b → Small (first {A = A} ls a) → Small (cond b (refusesRow n r) (first {A = A} ls a))
+    go true e i = (h, k e)
+    go false e i = i
+
+small-told : {A : Type 0} (ls : List Line) (a : A) {t : Told A} → Few ls → first ls a ≡ t → Small t
+small-told {A} ls a f e = subst (λ (t : Told A). Small t) e (small-first ls a f)
+
 -- what is told is as short as its values, or a refusal
 told-most : {A : Type 0} (values : A → List ℕ) (k : ℕ) (ls : List Line) (a : A) → 15 ≤ k → Few ls → (Clear ls → length (values a) ≤ k) → length (toldText values (first ls a)) ≤ k
-told-most values k [] a h few-none v = v nothing
-told-most {A} values k (n when c ∷ ls) a h (plain m f) v = go c refl (λ e. told-most values k ls a h f (λ q. v (clear e q)))
+told-most {A} values k ls a h f v = go (first ls a) refl
   where
-    go : (b : Bool) → c ≡ b → (c ≡ false → length (toldText values (first ls a)) ≤ k) → length (toldText values (cond b (refuses n) (first ls a))) ≤ k
-    go true e i = omega (arith, plain-most n m)
-    go false e i = i e
-told-most {A} values k (n on-row r when c ∷ ls) a h (row m j f) v = go c refl (λ e. told-most values k ls a h f (λ q. v (clear e q)))
-  where
-    go : (b : Bool) → c ≡ b → (c ≡ false → length (toldText values (first ls a)) ≤ k) → length (toldText values (cond b (refusesRow n r) (first ls a))) ≤ k
-    go true e i = omega (arith, row-text-most n r m (j e))
-    go false e i = i e
-
--- the number of a refusal that is told is one of its lines
-few-refuses : {A : Type 0} (ls : List Line) (a : A) (n : ℕ) → Few ls → first ls a ≡ refuses n → n < 100
-few-refuses [] a n few-none e = absurd (let z : _≡_ {A = ℕ} 0 1 = cc in omega arith)
-few-refuses {A} (m when c ∷ ls) a n (plain h f) e = go c e (λ q. few-refuses ls a n f q)
-  where
-    go : (b : Bool) → cond b (refuses m) (first {A = A} ls a) ≡ refuses n → (first {A = A} ls a ≡ refuses n → n < 100) → n < 100
-    go true q i = let z : m ≡ n = cc in omega arith
-    go false q i = i q
-few-refuses {A} (m on-row r when c ∷ ls) a n (row h k f) e = go c e (λ q. few-refuses ls a n f q)
-  where
-    go : (b : Bool) → cond b (refusesRow m r) (first {A = A} ls a) ≡ refuses n → (first {A = A} ls a ≡ refuses n → n < 100) → n < 100
-    go true q i = absurd (let z : _≡_ {A = ℕ} 0 1 = cc in omega arith)
-    go false q i = i q
-
-few-row : {A : Type 0} (ls : List Line) (a : A) (n i : ℕ) → Few ls → first ls a ≡ refusesRow n i → (n < 100) × (i < 10000)
-few-row [] a n i few-none e = absurd (let z : _≡_ {A = ℕ} 0 1 = cc in omega arith)
-few-row {A} (m when c ∷ ls) a n i (plain h f) e = go c e (λ q. few-row ls a n i f q)
-  where
-    go : (b : Bool) → cond b (refuses m) (first {A = A} ls a) ≡ refusesRow n i → (first {A = A} ls a ≡ refusesRow n i → (n < 100) × (i < 10000)) → (n < 100) × (i < 10000)
-    go true q j = absurd (let z : _≡_ {A = ℕ} 0 1 = cc in omega arith)
-    go false q j = j q
-few-row {A} (m on-row r when c ∷ ls) a n i (row h k f) e = go c refl e (λ q. few-row ls a n i f q)
-  where
-    go : (b : Bool) → c ≡ b → cond b (refusesRow m r) (first {A = A} ls a) ≡ refusesRow n i → (first {A = A} ls a ≡ refusesRow n i → (n < 100) × (i < 10000)) → (n < 100) × (i < 10000)
-    go true x q j = let y : m ≡ n = cc in let z : r ≡ i = cc in let w = k x in (omega arith, omega arith)
-    go false x q j = j q
+    go : (t : Told A) → first ls a ≡ t → length (toldText values t) ≤ k
+    go (gives b) e = let c = gives-clear ls {a = a} {b = b} e in subst (λ (x : A). length (values x) ≤ k) (c .1) (v (c .0))
+    go (refuses n) e = omega (arith, plain-most n (small-told ls a f e))
+    go (refusesRow n r) e = let m = small-told ls a f e in omega (arith, row-text-most n r (m .0) (m .1))
 
 few-sheet : (s : List ℕ) → Few (sheetLines s)
 few-sheet s = plain (lit< tt) (row {r = firstBadRow s} {c = ltb (firstBadRow s) 1801} (lit< tt) (λ e. omega (arith, ltb-true (firstBadRow s) 1801 e)) few-none)
@@ -403,8 +392,8 @@ Brief (SheetRefused r) = length (refusalText r) ≤ 8191
 
 brief-told : (ls : List Line) → Few ls → (verdict : SheetAnswer) → paper verdict ≡ first ls tt → Brief verdict
 brief-told ls f Good e = tt
-brief-told ls f (SheetRefused (Plain n)) e = omega (arith, plain-most n (few-refuses ls tt n f (sym e)))
-brief-told ls f (SheetRefused (AtRow n i)) e = let g = few-row ls tt n i f (sym e) in omega (arith, row-text-most n i (g .0) (g .1))
+brief-told ls f (SheetRefused (Plain n)) e = omega (arith, plain-most n (small-told ls tt f (sym e)))
+brief-told ls f (SheetRefused (AtRow n i)) e = let g = small-told ls tt f (sym e) in omega (arith, row-text-most n i (g .0) (g .1))
 
 -- and so is every verdict of the judge of a list and of the reader of a text
 pub judge-brief : (s : List ℕ) (verdict : SheetAnswer) → paper verdict ≡ judgeTold s → Brief verdict
@@ -476,10 +465,6 @@ record Runs (k : ℕ) (tr : Trace) : Type 0 where
   end : Ends (tr .end)
   count : length (tr .outs) ≤ k
 
-or-false : (a b : Bool) → a || b ≡ false → (a ≡ false) × (b ≡ false)
-or-false true b h = absurd (let z : _≡_ {A = ℕ} 0 1 = cc in omega arith)
-or-false false b h = (refl, h)
-
 module _ {s : List ℕ} (ok : Accepted s) where
   -- a step that is done
   done-modest : (st : State) (p : Step) (o : Out) → StepDone document01 s st p o → Modest o × Steady (o .state)
@@ -487,7 +472,7 @@ module _ {s : List ℕ} (ok : Accepted s) where
       let a = stepAsked document01 s (held document01 s st) (st .gas) p in
       let g = newGas (st .gas) p in
       let v = gasHeat document01 s g in
-      let x = or-false (ltZ (p .hydrogen) (pos 0)) (beyond document01 (added (st .gas) p)) (or-false (ltZ (p .carbon) (pos 0)) _ (d .atoms) .1) .1 in
+      let x = neither (ltZ (p .hydrogen) (pos 0)) (beyond document01 (added (st .gas) p)) (neither (ltZ (p .carbon) (pos 0)) _ (d .atoms) .1) .1 in
       let b : Burns document01 g = record { limits = limits-of document01 (added (st .gas) p) x; is-lean = d .burns } in
       let l = no-ltZ (a .target) (v 200000) (le-parts (d .reached)) in
       let u = no-ltZ (v 2000000) (a .target) (le-parts (d .most)) in
@@ -502,25 +487,18 @@ module _ {s : List ℕ} (ok : Accepted s) where
         record { limits = b .limits; warm = m },
       )
 
-  few-judged : (st : State) (p : Step) (n : ℕ) → judge document01 s st p ≡ refuses n → n < 100
+  small-judged : (st : State) (p : Step) → Small (judge document01 s st p)
   unfolding judge asked sought
-  few-judged st p n e = go (first (askLines document01 (st .gas) p) (stepAsked document01 s (held document01 s st) (st .gas) p)) refl e
+  small-judged st p = go (first (askLines document01 (st .gas) p) (stepAsked document01 s (held document01 s st) (st .gas) p)) refl
     where
-      go : (x : Told Asked) → first (askLines document01 (st .gas) p) (stepAsked document01 s (held document01 s st) (st .gas) p) ≡ x
-          → andThen x (λ a. first (unreached (gasHeat document01 s (a .gas)) (a .target)) (outOf document01 s a)) ≡ refuses n → n < 100
-      go (gives a) q r = few-refuses (unreached (gasHeat document01 s (a .gas)) (a .target)) (outOf document01 s a) n (plain (lit< tt) (plain (lit< tt) few-none)) r
-      go (refuses m) q r = let z : m ≡ n = cc in let w = few-refuses (askLines document01 (st .gas) p) _ m (plain (lit< tt) (plain (lit< tt) (plain (lit< tt) few-none))) q in omega arith
-      go (refusesRow m i) q r = absurd (let z : _≡_ {A = ℕ} 0 1 = cc in omega arith)
+      few : Few (askLines document01 (st .gas) p)
+      few = plain (lit< tt) (plain (lit< tt) (plain (lit< tt) few-none))
 
-  few-judged-row : (st : State) (p : Step) (n i : ℕ) → judge document01 s st p ≡ refusesRow n i → n < 100
-  unfolding judge asked sought
-  few-judged-row st p n i e = go (first (askLines document01 (st .gas) p) (stepAsked document01 s (held document01 s st) (st .gas) p)) refl e
-    where
       go : (x : Told Asked) → first (askLines document01 (st .gas) p) (stepAsked document01 s (held document01 s st) (st .gas) p) ≡ x
-          → andThen x (λ a. first (unreached (gasHeat document01 s (a .gas)) (a .target)) (outOf document01 s a)) ≡ refusesRow n i → n < 100
-      go (gives a) q r = few-row (unreached (gasHeat document01 s (a .gas)) (a .target)) (outOf document01 s a) n i (plain (lit< tt) (plain (lit< tt) few-none)) r .0
-      go (refuses m) q r = absurd (let z : _≡_ {A = ℕ} 0 1 = cc in omega arith)
-      go (refusesRow m j) q r = let z : m ≡ n = cc in let w = few-row (askLines document01 (st .gas) p) _ m j (plain (lit< tt) (plain (lit< tt) (plain (lit< tt) few-none))) q .0 in omega arith
+          → Small (andThen x (λ a. first (unreached (gasHeat document01 s (a .gas)) (a .target)) (outOf document01 s a)))
+      go (gives a) q = small-first (unreached (gasHeat document01 s (a .gas)) (a .target)) (outOf document01 s a) (plain (lit< tt) (plain (lit< tt) few-none))
+      go (refuses m) q = small-told (askLines document01 (st .gas) p) _ few q
+      go (refusesRow m i) q = small-told (askLines document01 (st .gas) p) _ few q
 
   run-modest : (ps : List Step) (st : State) → Steady st → Runs (length ps) (run document01 s st ps)
   unfolding run
@@ -532,8 +510,8 @@ module _ {s : List ℕ} (ok : Accepted s) where
           let m = done-modest st p o (step-done document01 s st p o e) in
           let r = i (o .state) (m .1) in
           record { outs = one-more (m .0) (r .outs); end = r .end; count = let c = r .count in omega arith }
-      go (refuses n) e i = record { outs = none-done; end = at-step (few-judged st p n e) h; count = omega arith }
-      go (refusesRow n r) e i = record { outs = none-done; end = at-step (few-judged-row st p n r e) h; count = omega arith }
+      go (refuses n) e i = record { outs = none-done; end = at-step (subst (λ (t : Told Out). Small t) e (small-judged st p)) h; count = omega arith }
+      go (refusesRow n r) e i = record { outs = none-done; end = at-step (subst (λ (t : Told Out). Small t) e (small-judged st p) .0) h; count = omega arith }
 
 steps-length : (n : ℕ) (l : List ℤ) → length (stepsOf n l) ≡ n
 unfolding stepsOf
@@ -579,7 +557,7 @@ module _ (s : List ℕ) (ch : Charge) (mk : ℤ) (numbers : List ℤ) where
       covered (clear h n) = not-false _ h
 
       few : Clear (startLines document01 ch mk (length numbers) 64 64 704) → length numbers ≤ 256
-      few (clear e c) = ltb-false 256 (length numbers) (or-false (not (eqb (length numbers % 4) 0)) (ltb 256 (length numbers)) e .1)
+      few (clear e c) = ltb-false 256 (length numbers) (neither (not (eqb (length numbers % 4) 0)) (ltb 256 (length numbers)) e .1)
 
   few-lines : Few lines
   few-lines = few-append (few-sheet s) (plain (lit< tt) (plain (lit< tt) (plain (lit< tt) (plain (lit< tt) (plain (lit< tt) few-none)))))
@@ -591,8 +569,8 @@ module _ (s : List ℕ) (ch : Charge) (mk : ℤ) (numbers : List ℤ) where
       let r : Runs 64 t = rw (← c .1) (began (c .0)) in
       let n = r .count in
       simp length-append (omega (arith, course-most (length (t .outs)) (t .end) n (r .end), steps-most (r .outs) 1))
-  short-told (refuses n) e = simp length-append (omega (arith, plain-most n (few-refuses lines course-of n few-lines e)))
-  short-told (refusesRow n i) e = let f = few-row lines course-of n i few-lines e in simp length-append (omega (arith, simp length-append at (row-text-most n i (f .0) (f .1))))
+  short-told (refuses n) e = simp length-append (omega (arith, plain-most n (small-told lines course-of few-lines e)))
+  short-told (refusesRow n i) e = let f = small-told lines course-of few-lines e in simp length-append (omega (arith, simp length-append at (row-text-most n i (f .0) (f .1))))
 
   short-walk : length (walkText (walkTold Good s ch mk numbers)) ≤ 8191
   unfolding walked
@@ -625,8 +603,8 @@ module _ (s : List ℕ) (ch : Charge) (mk : ℤ) (numbers : List ℤ) where
       let r : Runs 64 t = rw (← c .1) (began s ch mk numbers (c .0)) in
       let n = r .count in
       simp length-append (omega (arith, end-most (length (t .outs)) (t .end) (r .end), lines-most (r .outs) 1 (omega arith)))
-  page-told (refuses n) e = simp length-append (omega (arith, small-most n (few-refuses (lines s ch mk numbers) (course-of s ch mk numbers) n (few-lines s ch mk numbers) e)))
-  page-told (refusesRow n i) e = simp length-append (omega (arith, small-most n (few-row (lines s ch mk numbers) (course-of s ch mk numbers) n i (few-lines s ch mk numbers) e .0)))
+  page-told (refuses n) e = simp length-append (omega (arith, small-most n (small-told (lines s ch mk numbers) (course-of s ch mk numbers) (few-lines s ch mk numbers) e)))
+  page-told (refusesRow n i) e = simp length-append (omega (arith, small-most n (small-told (lines s ch mk numbers) (course-of s ch mk numbers) (few-lines s ch mk numbers) e .0)))
 
   -- no printed walk is longer than 4,096 bytes
   pub page-short : length (printedWalk (walkTold Good s ch mk numbers)) ≤ 4096

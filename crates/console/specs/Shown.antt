@@ -1,11 +1,9 @@
 -- What the lists that a walk wrote show, step by step, for the code that puts a walk: the text of its answer and its places. That this is the text of the walk
 -- (specs/Walks.antt) is the law `walk-shown`.
-use Prim.Native.Nat.{ℕ, zero, suc, _*_, _≤_, min}
+use Prim.Native.Nat.{ℕ, zero, suc, _*_, _≤_}
 use mathlib.Core.List.{List, [], _++_}
 use lib.IntN.{ℤ, pos}
 use lib.ListN.{length, take, drop, getD}
-use Rattle.fields.specs.declared.Numbers.{Numbers}
-use Rattle.fields.specs.declared.Numbers.the-variants.{Count, Bad}
 use Rattle.air.specs.Refusals.{Told, gives, refuses, refusesRow}
 use Rattle.walk.specs.Walk.{Trace, Course, done, stopped}
 use Rattle.console.specs.declared.walks.Layout.{Layout}
@@ -39,8 +37,3 @@ pub record Holds (n : ℕ) (t r : List ℤ) (l : List ℕ) : Type 0 where
   pub temperatures : n ≤ length t
   pub rests : n ≤ length r
   pub looks : 11 * n ≤ length l
-
--- how many numbers a list of so many places holds
-abbrev pub heldOf : Numbers → ℕ → ℕ
-heldOf (Count n) places = min n places
-heldOf Bad places = 0

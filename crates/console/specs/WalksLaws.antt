@@ -16,7 +16,7 @@ use Rattle.text.specs.Put.{Put}
 use Rattle.text.specs.PutLaws.{put-none, put-then}
 use Rattle.fields.specs.declared.Numbers.{Numbers}
 use Rattle.fields.specs.declared.Numbers.the-variants.{Count, Bad}
-use Rattle.fields.specs.Fields.{valuesOf, countAll, Stored}
+use Rattle.fields.specs.Fields.{valuesOf, countAll, Stored, heldOf}
 use Rattle.fields.specs.FieldsLaws.{count-is}
 use Rattle.air.specs.Refusals.{Told, gives, refuses, refusesRow, refused, Line as Condition, condition, toldBy, first}
 use Rattle.air.specs.declared.Refusal.{Refusal}
@@ -45,7 +45,7 @@ use Rattle.console.specs.declared.walks.Layout.the-variants.{Line, Page}
 use Rattle.wording.specs.Texts.{toldText, used, courseText}
 use Rattle.console.specs.Requests.{misfitText}
 use Rattle.console.specs.Walks.{walkTold, stepText, stepsText, walkText, walkRequest, headerText, endText, printedWalk}
-use Rattle.console.specs.Shown.{stepsIn, shown, walkShown, layoutText, Holds, heldOf}
+use Rattle.console.specs.Shown.{stepsIn, shown, walkShown, layoutText, Holds}
 use Rattle.wording.specs.TextsLaws.{used-eleven}
 
 -- ---- the loop over the steps
@@ -217,10 +217,6 @@ module _ (lines : List Condition) (w : Weights) (s : List ℕ) (ch : Charge) (mk
   many-alike xs ys hx hy =
       first-same lines (startLines w ch mk (length xs) a b c) (startLines w ch mk (length ys) a b c) _ _
       (refused-many (length xs) _ hx ∙ sym (refused-many (length ys) _ hy))
-
-pub held-most : (numbers : Numbers) (places : ℕ) → heldOf numbers places ≤ places
-held-most (Count n) places = omega arith
-held-most Bad places = omega arith
 
 module _ (verdict : SheetAnswer) (s : List ℕ) (fs : List (List ℕ)) (before later : List ℤ) (long : length before ≡ 261) where
   steps-alike : (ch : Charge) (mk : ℤ) (k : ℕ) → k ≡ length (valuesOf fs) → 4 ≤ k → later ≡ sets before 0 (valuesOf fs)

@@ -2,7 +2,6 @@
 use crate::replies;
 use air::Millikelvin;
 use air::Refusal;
-use fields::Numbers;
 use gas::Charge;
 use sheet::SheetAnswer;
 use walk::WalkAnswer;
@@ -14,7 +13,7 @@ ghost use Rattle.fields.specs.Fields.{fieldsFrom};
 ghost use Rattle.walk.specs.Walk.{paperWalk, Walks};
 ghost use Rattle.wording.specs.Texts.{used};
 ghost use Rattle.console.specs.Walks.{walkTold, inLine, onPage, stepText, refusedLine, endText, walkRequest};
-ghost use Rattle.console.specs.Shown.{stepsIn, shown, walkShown, layoutText, heldOf, Holds};
+ghost use Rattle.console.specs.Shown.{stepsIn, shown, walkShown, layoutText, Holds};
 ghost use Rattle.console.specs.Answers.{Judged};
 
 // How a walk is shown: in one line, or on a page with a line for each step.
@@ -235,16 +234,6 @@ pub(crate) fn show(
     put_walk(layout, answer, &temperatures, &rests, &looks, out, at)
 }
 
-// How many numbers of a line a list of so many places holds; none where a field is no number.
-fn held_of(numbers: Numbers, places: usize) -> usize
-    ensures { λ r. ⌜ r ≡ heldOf numbers places ⌝ }
-{
-    match numbers {
-        Numbers::Count(n) => { if n < places { n } else { places } }
-        Numbers::Bad => 0,
-    }
-}
-
 // walk A c h mK n1 n2 .. The list has a place more than a start and the steps of the longest walk: where it is full, there are too many.
 pub(crate) fn reply_walk(
     line: &[u8],
@@ -258,7 +247,7 @@ pub(crate) fn reply_walk(
     ensures { λ r. ⌜ Put (walkRequest verdict (now (sheet .entry)) (fieldsFrom (now (line .entry)) from)) (now (out .entry)) at r (now (out .exit)) ⌝ }
 {
     let mut list = [0i64; 261];
-    let n = held_of(fields::read_numbers(line, from, &mut list), 261);
+    let n = fields::held_of(fields::read_numbers(line, from, &mut list), 261);
     if n < 4 {
         return replies::put_misfit(out, at);
     }

@@ -1,5 +1,5 @@
 -- The fields of a line, parted by tabs, and the whole numbers that they are, each written in decimal as a number is printed.
-use Prim.Native.Nat.{ℕ, suc, _+_}
+use Prim.Native.Nat.{ℕ, suc, _+_, min}
 use mathlib.Core.Bool.{Bool, false, cond}
 use mathlib.Core.Path.{_≡_}
 use mathlib.Core.List.{List, [], _∷_}
@@ -60,6 +60,11 @@ countAll n (f ∷ fs) = countNext (wholeOf f) (countAll (n + 1) fs)
 abbrev pub Stored : List (List ℕ) → List ℤ → Numbers → List ℤ → Type 0
 Stored fs before (Count n) later = later ≡ sets before 0 (valuesOf fs)
 Stored fs before Bad later = Unit {0}
+
+-- how many numbers a list of so many places holds
+abbrev pub heldOf : Numbers → ℕ → ℕ
+heldOf (Count n) places = min n places
+heldOf Bad places = 0
 
 -- there are exactly k numbers
 abbrev pub isCount : ℕ → Numbers → Bool

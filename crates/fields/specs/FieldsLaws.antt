@@ -13,7 +13,7 @@ use lib.IntN.{ℤ}
 use Rattle.text.specs.Reading.{wholeOf}
 use Rattle.text.specs.declared.Whole.{Whole}
 use Rattle.text.specs.declared.Whole.the-variants.{Is, Not}
-use Rattle.fields.specs.Fields.{spanOf, onHead, fieldsOf, fieldsFrom, valuesOf, countNext, countAll, Stored, isCount}
+use Rattle.fields.specs.Fields.{spanOf, onHead, fieldsOf, fieldsFrom, valuesOf, countNext, countAll, Stored, heldOf, isCount}
 use Rattle.fields.specs.declared.Numbers.{Numbers}
 use Rattle.fields.specs.declared.Numbers.the-variants.{Count, Bad}
 
@@ -148,3 +148,8 @@ exactly F other fs before later k {n} {r} e q t h s =
 pub not-exactly : {A : Type 0} (a other : A) (fs : List (List ℕ)) (k : ℕ) {n : Numbers} {r : Bool}
     → n ≡ countAll 0 fs → r ≡ isCount k n → r ≡ false → other ≡ cond (isCount k (countAll 0 fs)) a other
 not-exactly a other fs k e q t = rw (← e, ← q, t) refl
+
+-- a list holds no more numbers than it has places
+pub held-most : (numbers : Numbers) (places : ℕ) → heldOf numbers places ≤ places
+held-most (Count n) places = omega arith
+held-most Bad places = omega arith

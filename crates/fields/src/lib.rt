@@ -3,7 +3,7 @@
 ghost use mathlib.Core.Path.{_≡_};
 ghost use Prim.Native.Nat.{_+_};
 ghost use lib.ListN.{length, set, drop};
-ghost use Rattle.fields.specs.Fields.{spanOf, fieldsFrom, countAll, Stored, isCount, oneOf, twoOf, threeOf, fourOf};
+ghost use Rattle.fields.specs.Fields.{spanOf, fieldsFrom, countAll, Stored, heldOf, isCount, oneOf, twoOf, threeOf, fourOf};
 use text::Whole;
 
 // How many numbers the fields are, or that one of them is none.
@@ -70,6 +70,16 @@ pub fn read_numbers(line: &[u8], from: usize, list: &mut [i64]) -> Numbers
         p = e + 1;
     }
     Numbers::Count(n)
+}
+
+// How many numbers of a line a list of so many places holds; none where a field is no number.
+pub fn held_of(numbers: Numbers, places: usize) -> usize
+    ensures { λ r. ⌜ r ≡ heldOf numbers places ⌝ }
+{
+    match numbers {
+        Numbers::Count(n) => { if n < places { n } else { places } }
+        Numbers::Bad => 0,
+    }
 }
 
 // Whether the fields are exactly k numbers.

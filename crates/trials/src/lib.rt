@@ -8,11 +8,8 @@ mod mark_forms;
 mod sheet_forms;
 mod walk_forms;
 
-use fields::Numbers;
 use inverses::Inverse;
 use stream::Held;
-ghost use Prim.Native.Nat.{_≤_};
-ghost use lib.ListN.{length};
 
 // Answers every line of standard input. The sheet is the built-in one until a line makes another.
 pub fn run() {
@@ -187,16 +184,6 @@ fn marks_asked_by(word: &[u8]) -> Asked {
     Asked::Request
 }
 
-// How many numbers of a line were read, at most as many as there are places.
-fn count_of(numbers: Numbers, places: usize) -> usize
-    ensures { λ r. ⌜ r ≤ places ⌝ }
-{
-    match numbers {
-        Numbers::Count(n) => lists::least(n, places),
-        Numbers::Bad => 0,
-    }
-}
-
 // Puts the answer to one of the further forms.
 fn put_form(form: Form, numbers: &[i64], sheet: &[u32], out: &mut [u8], at: usize) -> usize {
     match form {
@@ -227,7 +214,7 @@ fn answer_form(
     at: usize,
 ) -> usize {
     let mut list = [0i64; 300];
-    let n = count_of(fields::read_numbers(line, from, &mut list), 300);
+    let n = fields::held_of(fields::read_numbers(line, from, &mut list), 300);
     let next = put_form(form, &list[..n], sheet, out, at);
     text::put_byte(10, out, next)
 }
@@ -245,7 +232,7 @@ fn make_sheet(numbers: &[i64], sheet: &mut [u32], out: &mut [u8], at: usize) -> 
 // Makes the sheet that a line asks for.
 fn answer_sheet(line: &[u8], from: usize, sheet: &mut [u32], out: &mut [u8], at: usize) -> Desk {
     let mut list = [0i64; 300];
-    let n = count_of(fields::read_numbers(line, from, &mut list), 300);
+    let n = fields::held_of(fields::read_numbers(line, from, &mut list), 300);
     make_sheet(&list[..n], sheet, out, at)
 }
 

@@ -1,3 +1,4 @@
+use Rattle.fields.specs.FieldsLaws.{held-most}
 use lib.ListN.{length-take}
 use native.Mathlib.Omega.{arith}
 use borrow.Author.Needs.{needs}
@@ -10,14 +11,14 @@ slice-aggregate-read-numbers c = search needs
 read-numbers-requires : tie.Need-read-numbers-requires
 read-numbers-requires c κs = search needs
 
-count-of-requires : tie.Need-count-of-requires
-count-of-requires c κs = search needs
+held-of-requires : tie.Need-held-of-requires
+held-of-requires c κs = search needs
 
 array-share-prefix-list : tie.Need-array-share-prefix-list
-array-share-prefix-list c = search needs
+array-share-prefix-list c = omega (arith, c .held-of .ensures, held-most (c .before .before .read-numbers .result) 300)
 
 slice-aggregate-make-sheet : tie.Need-slice-aggregate-make-sheet
-slice-aggregate-make-sheet c = simp length-take (omega arith)
+slice-aggregate-make-sheet c = simp length-take (omega (arith, c .before .held-of .ensures, held-most (c .before .before .before .read-numbers .result) 300))
 
 make-sheet-requires : tie.Need-make-sheet-requires
 make-sheet-requires c κs = search needs
@@ -37,7 +38,7 @@ answer-sheet-spec =
     (tie.spec
     slice-aggregate-read-numbers
     read-numbers-requires
-    count-of-requires
+    held-of-requires
     array-share-prefix-list
     slice-aggregate-make-sheet
     make-sheet-requires

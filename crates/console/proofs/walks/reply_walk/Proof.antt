@@ -1,5 +1,6 @@
 use mathlib.Core.Path.{refl}
-use Rattle.console.specs.WalksLaws.{walk-misfit, walk-kept, held-most}
+use Rattle.console.specs.WalksLaws.{walk-misfit, walk-kept}
+use Rattle.fields.specs.FieldsLaws.{held-most}
 use Rattle.fields.specs.Fields.{fieldsFrom}
 use lib.ListN.{getD, replicate}
 use lib.IntN.{pos}

@@ -1,7 +1,7 @@
 use native.Mathlib.Omega.{arith}
 use borrow.Author.Needs.{needs}
-use Rattle.console.proofs.walks.held_of.Statement.{statement}
-use Rattle.console.proofs.walks.held_of.Tie as tie
+use Rattle.fields.proofs.held_of.Statement.{statement}
+use Rattle.fields.proofs.held_of.Tie as tie
 
 enum-known-numbers : tie.Need-enum-known-numbers
 enum-known-numbers c = search needs
