@@ -14,6 +14,9 @@ pub type Sheet<'a> = Result<&'a [u32], Refusal>;
 
 /// The answer to a request line; neither has a line feed.
 pub fn answer(line: &str, sheet: Sheet) -> String {
+    if line.contains('\r') {
+        return error("the line has a carriage return");
+    }
     let fields: Vec<&str> = line.split('\t').collect();
     if fields[0] == "mark" {
         return mark_answer(&fields[1..]);
@@ -144,8 +147,11 @@ fn mark_answer(fields: &[&str]) -> String {
         ["blank", rest @ ..] => (Some(Typed::Blank), rest),
         _ => return error("no such kind of answer"),
     };
-    match (typed, numbers(rest).as_deref()) {
-        (Some(typed), Some([key, window])) => match marking::mark(typed, *key, *window) {
+    let Some(typed) = typed else {
+        return error("not a number");
+    };
+    match numbers(rest).as_deref() {
+        Some([key, window]) => match marking::mark(typed, *key, *window) {
             Ok(true) => "counts".to_string(),
             Ok(false) => "misses".to_string(),
             Err(refusal) => say_refused(&refusal),

@@ -1,17 +1,20 @@
 -- The answer to each request line (docs/PROGRAM.md), over a sheet list and the verdict that it was given when it was read. With the verdict `Good` each request
 -- tells what the call of the layer below tells of that list, refusals 1 and 3 among them; a sheet that was refused tells its refusal to every request that needs one.
 use Prim.Native.Nat.{ℕ}
+use mathlib.Core.Bool.{cond}
 use mathlib.Core.List.{List, [], _∷_, _++_}
+use mathlib.Core.Path.{_≡_}
 use lib.IntN.{ℤ}
 use Rattle.text.specs.declared.Whole.{Whole}
 use Rattle.text.specs.declared.Whole.the-variants.{Is, Not}
 use Rattle.fields.specs.declared.Three.{Three}
 use Rattle.fields.specs.declared.Three.the-variants.{Are as AreThree, Not as NotThree}
-use Rattle.fields.specs.Fields.{fieldsOf, oneOf, threeOf, fourOf}
+use Rattle.fields.specs.Fields.{fieldsOf, holdsReturn, oneOf, threeOf, fourOf}
 use Rattle.air.specs.Refusals.{first}
 use Rattle.air.specs.Inverse.{looks}
 use Rattle.air.specs.Answers.{heatTold as airHeatTold, psiTold, cpTold, psiValue, psiInverseTold}
 use Rattle.sheet.specs.Sheet.{Accepted}
+use Rattle.sheet.specs.Answers.{paper, judgeTold, SheetRead}
 use Rattle.sheet.specs.declared.SheetAnswer.{SheetAnswer}
 use Rattle.sheet.specs.declared.SheetAnswer.the-variants.{Good, Refused as SheetRefused}
 use Rattle.gas.specs.declared.Charge.{Charge}
@@ -27,7 +30,7 @@ use Rattle.console.specs.declared.requests.Quantity.{Quantity}
 use Rattle.console.specs.declared.requests.Quantity.the-variants.{Heat, Content, Specific, Temperature, Station}
 use Rattle.console.specs.declared.requests.Asked.{Asked}
 use Rattle.console.specs.declared.requests.Asked.the-variants.{Of, Refused, Misfit}
-use Rattle.console.specs.Requests.{requestOf, askedOf, unknownText, misfitText}
+use Rattle.console.specs.Requests.{requestOf, askedOf, unknownText, misfitText, returnText}
 use Rattle.wording.specs.Texts.{refusalText, toldText, readingText, inverseText, burntText, wholeText, figuresText}
 use Rattle.console.specs.Marks.{markRequest}
 use Rattle.console.specs.Walks.{walkRequest}
@@ -73,19 +76,34 @@ replyText verdict s Walk fs = walkRequest verdict s fs
 replyText verdict s Mark fs = markRequest fs
 replyText verdict s Unknown fs = unknownText
 
--- the answer to a line: the first field says what is asked
+-- the answer to a line: one with a carriage return is no request; else the first field says what is asked
 abbrev pub answerFields : SheetAnswer → List ℕ → List (List ℕ) → List ℕ
 answerFields verdict s [] = unknownText
 answerFields verdict s (w ∷ fs) = replyText verdict s (requestOf w) fs
 
+unfoldable pub lineText : SheetAnswer → List ℕ → List ℕ → List ℕ
+lineText verdict s line = cond (holdsReturn line) returnText (answerFields verdict s (fieldsOf line))
+
 unfoldable pub answerOf : SheetAnswer → List ℕ → List ℕ → List ℕ
-answerOf verdict s line = answerFields verdict s (fieldsOf line) ++ (10 ∷ [])
+answerOf verdict s line = lineText verdict s line ++ (10 ∷ [])
 
--- what a program that holds a verdict knows: a sheet that was found good is accepted
-abbrev pub Judged : SheetAnswer → List ℕ → Type 0
-Judged Good s = Accepted s
-Judged (SheetRefused r) s = Unit {0}
+-- after the reader: its refusal of the text, else what the judge tells of the list
+abbrev pub judgedAfter : SheetAnswer → SheetAnswer → List ℕ → Type 0
+judgedAfter Good verdict s = paper verdict ≡ judgeTold s
+judgedAfter (SheetRefused r) verdict s = verdict ≡ SheetRefused r
 
+-- the verdict on a sheet text, read into a list
+pub record Verdict (text before : List ℕ) (verdict : SheetAnswer) (s : List ℕ) : Type 0 where
+  pub read : SheetAnswer
+  pub reading : SheetRead text before read s
+  pub judged : judgedAfter read verdict s
+
+-- what a program that holds a verdict knows: it is the judge's on the list, or that on the text that the list was read from
+pub data Judged (verdict : SheetAnswer) (s : List ℕ) : Type 0 where
+  ofList : paper verdict ≡ judgeTold s → Judged verdict s
+  ofText : {text before : List ℕ} → Verdict text before verdict s → Judged verdict s
+
+-- what is asked of a sheet that was found good is asked of an accepted one
 abbrev pub Ready : Asked → List ℕ → Type 0
 Ready (Of charge number) s = Accepted s
 Ready (Refused r) s = Unit {0}

@@ -8,11 +8,11 @@ use borrow.Author.Tests.{le-leb, eq-eqb, eqb-true}
 use lib.Dec.{leb, eqb}
 use lib.ListN.{length, take, drop}
 use Rattle.text.specs.ReadingLaws.{and-left, and-right}
-use Rattle.fields.specs.Fields.{spanOf, fieldsOf, fieldsFrom}
+use Rattle.fields.specs.Fields.{spanOf, fieldsOf, fieldsFrom, holdsReturn}
 use Rattle.fields.specs.FieldsLaws.{fields-at}
-use Rattle.console.specs.Requests.{sameText, requestOf}
+use Rattle.console.specs.Requests.{sameText, requestOf, returnText}
 use Rattle.sheet.specs.declared.SheetAnswer.{SheetAnswer}
-use Rattle.console.specs.Answers.{replyText, answerFields, answerOf}
+use Rattle.console.specs.Answers.{replyText, answerFields, lineText}
 
 -- words
 same-refl : (a : List ℕ) → sameText a a ≡ true
@@ -36,10 +36,14 @@ same-is a b {r} {t} h e = go t e (sameText a b) refl
     go false e true q = absurd (true≢false (sym (h .1 (same-eq a b q)) ∙ e))
     go false e false q = refl
 
--- a line by its first field, which ends at e
-pub answer-is : (verdict : SheetAnswer) (s line : List ℕ) (e : ℕ) → e ≡ 0 + spanOf (drop 0 line)
-    → answerOf verdict s line ≡ replyText verdict s (requestOf (take (e - 0) (drop 0 line))) (fieldsFrom line (e + 1)) ++ (10 ∷ [])
-unfolding answerOf fieldsFrom
-answer-is verdict s line e q =
+-- a line with no carriage return by its first field, which ends at e
+pub line-is : (verdict : SheetAnswer) (s line : List ℕ) (e : ℕ) → holdsReturn line ≡ false → e ≡ 0 + spanOf (drop 0 line)
+    → lineText verdict s line ≡ replyText verdict s (requestOf (take (e - 0) (drop 0 line))) (fieldsFrom line (e + 1))
+unfolding lineText fieldsFrom
+line-is verdict s line e n q =
     let z : leb 0 (length line) ≡ true = le-leb 0 (length line) (omega arith) in
-    ap (λ (fs : List (List ℕ)). answerFields verdict s fs ++ (10 ∷ [])) (sym (ap (λ (t : Bool). cond t (fieldsOf (drop 0 line)) []) z) ∙ fields-at line 0 e (omega arith) q)
+    rw n (ap (λ (fs : List (List ℕ)). answerFields verdict s fs) (sym (ap (λ (t : Bool). cond t (fieldsOf (drop 0 line)) []) z) ∙ fields-at line 0 e (omega arith) q))
+
+pub line-returned : (verdict : SheetAnswer) (s line : List ℕ) → holdsReturn line ≡ true → lineText verdict s line ≡ returnText
+unfolding lineText
+line-returned verdict s line n = rw n refl

@@ -2,13 +2,15 @@
 -- Assumes nothing.
 use Prim.Native.Nat.{ℕ, _≤_, _/_}
 use mathlib.Core.Path.{_≡_, refl, sym, _∙_, ap}
+use mathlib.Core.Bool.{cond}
 use mathlib.Core.List.{List, [], _∷_, _++_}
+use native.Mathlib.Omega.{arith}
 use borrow.Author.Tests.{le-ltb}
 use lib.Dec.{ltb}
 use lib.IntN.{ℤ}
 use lib.ListN.{length, drop}
 use Rattle.signed.specs.Zed.{up}
-use Rattle.fields.specs.Fields.{fieldsOf, fourOf, valuesOf, countAll}
+use Rattle.fields.specs.Fields.{fieldsOf, holdsReturn, fourOf, valuesOf, countAll}
 use Rattle.fields.specs.declared.Four.{Four}
 use Rattle.fields.specs.declared.Four.the-variants.{Are, Not}
 use Rattle.air.specs.declared.Refusal.{Refusal}
@@ -30,9 +32,9 @@ use Rattle.console.specs.declared.requests.Request.{Request}
 use Rattle.console.specs.declared.requests.Request.the-variants.{OfAir, Burn, OfGas, Walk, Mark, Unknown}
 use Rattle.console.specs.declared.requests.Quantity.{Quantity}
 use Rattle.console.specs.declared.requests.Quantity.the-variants.{Heat, Content, Specific, Temperature, Station}
-use Rattle.console.specs.Requests.{requestOf, askedOf}
+use Rattle.console.specs.Requests.{requestOf, askedOf, returnText}
 use Rattle.wording.specs.Texts.{refusalText, toldText, foundText, valueText, wholeText, figuresText}
-use Rattle.console.specs.Answers.{gasText, gasReply, replyText, answerFields, answerOf, Judged, Ready}
+use Rattle.console.specs.Answers.{gasText, gasReply, replyText, answerFields, lineText, answerOf, judgedAfter, Judged, ofList, ofText, Ready}
 use Rattle.console.specs.Walks.{walkTold, walkText, startOf, walkOf, printedWalk}
 use Rattle.wording.specs.TextsLaws.{told-refused}
 
@@ -44,16 +46,20 @@ module _ {s : List ℕ} (accepted : Accepted s) (w : Weights) (ch : Charge) wher
   pub past-search : (places : ℕ) {t : Told Gas} → 11 ≤ places → t ≡ first (chargeLines w ch) (gasOf ch) → t ≡ first (searchOrder w ch s places) (gasOf ch)
   past-search places h e = e ∙ sym (past-sheet (10 when ltb places 11 ∷ chargeLines w ch) (gasOf ch) accepted ∙ rw (le-ltb places 11 h) refl)
 
--- what four numbers and a verdict come to is ready for the sheet
+-- a sheet that was found good is accepted, whichever way
+pub judged-good : (s : List ℕ) → Judged Good s → Accepted s
+judged-good s (ofList e) = accepted-of-told s (sym e)
+judged-good s (ofText v) = go (v .read) (v .judged)
+  where
+    go : (read : SheetAnswer) → judgedAfter read Good s → Accepted s
+    go Good e = accepted-of-told s (sym e)
+    go (Refused r) e = absurd (let z : _≡_ {A = ℕ} 0 1 = cc in omega arith)
+
+-- so what four numbers and a verdict come to is ready for the sheet
 pub ready : (s : List ℕ) (numbers : Four) (verdict : SheetAnswer) → Judged verdict s → Ready (askedOf numbers verdict) s
-ready s (Are a c h n) Good j = j
+ready s (Are a c h n) Good j = judged-good s j
 ready s (Are a c h n) (Refused r) j = tt
 ready s Not verdict j = tt
-
--- a verdict is what the judge of the list tells
-pub judged-of : (s : List ℕ) (verdict : SheetAnswer) → paper verdict ≡ judgeTold s → Judged verdict s
-judged-of s Good e = accepted-of-told s (sym e)
-judged-of s (Refused r) e = tt
 
 -- a list that is refused is refused by every call
 module _ (s : List ℕ) (r : Refusal) (e : paper (Refused r) ≡ judgeTold s) where
@@ -100,9 +106,9 @@ module _ (s : List ℕ) (r : Refusal) (e : paper (Refused r) ≡ judgeTold s) wh
 
 -- so a verdict given once answers as the calls would that judge the list themselves
 pub judged-once : (s line : List ℕ) (verdict : SheetAnswer) → paper verdict ≡ judgeTold s → answerOf verdict s line ≡ answerOf Good s line
-unfolding answerOf
+unfolding answerOf lineText
 judged-once s line Good e = refl
-judged-once s line (Refused r) e = ap (λ (t : List ℕ). t ++ (10 ∷ [])) (fields-refused s r e (fieldsOf line))
+judged-once s line (Refused r) e = ap (λ (t : List ℕ). cond (holdsReturn line) returnText t ++ (10 ∷ [])) (fields-refused s r e (fieldsOf line))
 
 -- and prints the walk that they would
 pub printed-once : (s : List ℕ) (ch : Charge) (mk : ℤ) (numbers : List ℤ) (verdict : SheetAnswer) → paper verdict ≡ judgeTold s

@@ -14,7 +14,7 @@ use Rattle.marking.specs.declared.Typed.{Typed}
 use Rattle.marking.specs.declared.Typed.the-variants.{Kelvins as TypedKelvins, Content as TypedContent, Blank as TypedBlank}
 use Rattle.console.specs.declared.marks.Kind.{Kind}
 use Rattle.console.specs.declared.marks.Kind.the-variants.{Kelvins, Content, Blank, Unknown}
-use Rattle.console.specs.Requests.{sameText, misfitText}
+use Rattle.console.specs.Requests.{sameText, misfitText, noNumberText}
 use Rattle.wording.specs.Texts.{markText}
 
 -- kelvins
@@ -50,7 +50,7 @@ markedText answer Not = misfitText
 -- of what was typed, where it is a number
 abbrev pub numberText : Bool → Number → List (List ℕ) → List ℕ
 numberText kelvins (Is x) fs = markedText (inUnit kelvins x) (twoOf fs)
-numberText kelvins NoNumber fs = misfitText
+numberText kelvins NoNumber fs = noNumberText
 
 abbrev pub typedText : Bool → List (List ℕ) → List ℕ
 typedText kelvins [] = misfitText

@@ -20,7 +20,7 @@ use Rattle.text.specs.declared.Whole.the-variants.{Is, Not}
 use Rattle.rows.specs.Rows.{rowsCp}
 use Rattle.rows.specs.Table.{column, airH, airCp, airPsi}
 use Rattle.rows.specs.TableLaws.{H-most, psi-most}
-use Rattle.fields.specs.Fields.{fieldsOf, oneOf, twoOf, threeOf, fourOf, valuesOf, countAll}
+use Rattle.fields.specs.Fields.{fieldsOf, holdsReturn, oneOf, twoOf, threeOf, fourOf, valuesOf, countAll}
 use Rattle.fields.specs.declared.Two.{Two}
 use Rattle.fields.specs.declared.Two.the-variants.{Are as AreTwo, Not as NotTwo}
 use Rattle.fields.specs.declared.Three.{Three}
@@ -72,10 +72,10 @@ use Rattle.console.specs.declared.requests.Request.the-variants.{OfAir, 
 use Rattle.console.specs.declared.requests.Reading.{Reading}
 use Rattle.console.specs.declared.requests.Reading.the-variants.{Heat as AirHeat, Psi as AirPsi, Cp as AirCp, Temperature as AirTemperature}
 use Rattle.console.specs.declared.walks.Layout.the-variants.{Line as InLine, Page}
-use Rattle.console.specs.Requests.{askedOf, requestOf}
+use Rattle.console.specs.Requests.{askedOf, requestOf, returnText}
 use Rattle.console.specs.Marks.{kindOf, inUnit, markedText, numberText, typedText, kindText, markRequest}
 use Rattle.console.specs.Walks.{walkTold, stepsText, walkText, startOf, walkOf, endText, printedWalk}
-use Rattle.console.specs.Answers.{airText, airReply, burnText, gasText, gasReply, replyText, answerFields, answerOf}
+use Rattle.console.specs.Answers.{airText, airReply, burnText, gasText, gasReply, replyText, answerFields, lineText, answerOf}
 
 -- ---- numbers
 -- 10, 100 ..
@@ -632,9 +632,13 @@ module _ (verdict : SheetAnswer) (b : Brief verdict) (s : List ℕ) where
   short-fields [] = lit≤ tt
   short-fields (w ∷ fs) = omega (arith, length-append (replyText verdict s (requestOf w) fs) (10 ∷ []), short-reply (requestOf w) fs)
 
+  short-line : (line : List ℕ) (returned : Bool) → length (cond returned returnText (answerFields verdict s (fieldsOf line)) ++ (10 ∷ [])) ≤ 8192
+  short-line line true = lit≤ tt
+  short-line line false = short-fields (fieldsOf line)
+
   pub answer-short : (line : List ℕ) → length (answerOf verdict s line) ≤ 8192
-  unfolding answerOf
-  answer-short line = short-fields (fieldsOf line)
+  unfolding answerOf lineText
+  answer-short line = short-line line (holdsReturn line)
 
   -- with that much room the place after the answer is the answer's length further on: nothing is cut
   pub answer-whole : (line before later : List ℕ) (at after : ℕ) → at + 8192 ≤ length before → Put (answerOf verdict s line) before at after later → after ≡ at + length (answerOf verdict s line)

@@ -7,7 +7,7 @@ use air::Millikelvin;
 use gas::Charge;
 use sheet::SheetAnswer;
 ghost use Rattle.text.specs.Put.{Put};
-ghost use Rattle.console.specs.Answers.{Judged, answerOf};
+ghost use Rattle.console.specs.Answers.{Judged, lineText, answerOf};
 ghost use Rattle.console.specs.Walks.{walkTold, printedWalk};
 
 // The answer to a request line, its line feed with it, over a sheet that was judged when it was read.
@@ -21,10 +21,21 @@ pub fn answer_judged(
     requires { ⌜ Judged verdict (now sheet) ⌝ }
     ensures { λ r. ⌜ Put (answerOf verdict (now (sheet .entry)) (now (line .entry))) (now (out .entry)) at r (now (out .exit)) ⌝ }
 {
+    let next = put_reply(line, verdict, sheet, out, at);
+    text::put_byte(10, out, next)
+}
+
+// What is said to a line: that it has a carriage return, or the reply to its request.
+fn put_reply(line: &[u8], verdict: SheetAnswer, sheet: &[u32], out: &mut [u8], at: usize) -> usize
+    requires { ⌜ Judged verdict (now sheet) ⌝ }
+    ensures { λ r. ⌜ Put (lineText verdict (now (sheet .entry)) (now (line .entry))) (now (out .entry)) at r (now (out .exit)) ⌝ }
+{
+    if fields::holds_return(line) {
+        return text::put_text(b"error\tthe line has a carriage return", out, at);
+    }
     let end = fields::field_end(line, 0);
     let request = requests::request_of(&line[0..end]);
-    let next = replies::reply(request, line, end + 1, verdict, sheet, out, at);
-    text::put_byte(10, out, next)
+    replies::reply(request, line, end + 1, verdict, sheet, out, at)
 }
 
 // The printed walk over a sheet that was judged when it was read.

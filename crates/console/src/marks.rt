@@ -69,7 +69,7 @@ fn put_number(
 {
     match number {
         Number::Is(x) => put_marked(in_unit(kelvins, x), line, from, out, at),
-        Number::Not => replies::put_misfit(out, at),
+        Number::Not => replies::put_no_number(out, at),
     }
 }
 

@@ -20,7 +20,7 @@ ghost use Rattle.sheet.specs.Sheet.{Accepted};
 ghost use Rattle.fields.specs.Fields.{fieldsFrom};
 ghost use Rattle.gas.specs.Answers.{paperBurn};
 ghost use Rattle.wording.specs.Texts.{burntText};
-ghost use Rattle.console.specs.Requests.{unknownText, misfitText};
+ghost use Rattle.console.specs.Requests.{unknownText, misfitText, noNumberText};
 ghost use Rattle.console.specs.Answers.{Judged, Ready, airText, airReply, burnText, gasText, gasReply, replyText};
 
 // No request begins with this word.
@@ -35,6 +35,13 @@ pub(crate) fn put_misfit(out: &mut [u8], at: usize) -> usize
     ensures { λ r. ⌜ Put misfitText (now (out .entry)) at r (now (out .exit)) ⌝ }
 {
     text::put_text(b"error\tthe request takes other fields", out, at)
+}
+
+// What was typed is no number.
+pub(crate) fn put_no_number(out: &mut [u8], at: usize) -> usize
+    ensures { λ r. ⌜ Put noNumberText (now (out .entry)) at r (now (out .exit)) ⌝ }
+{
+    text::put_text(b"error\tnot a number", out, at)
 }
 
 // The temperature of a psi, asked with eleven places for looks.

@@ -1,4 +1,8 @@
 // The arguments: a form, its file, and at the end `--sheet FILE`.
+ghost use mathlib.Core.Path.{_≡_};
+ghost use Prim.Native.Nat.{_≤_};
+ghost use lib.ListN.{length};
+ghost use Rattle.desk.specs.Sheets.{shownByte};
 
 // A file by the number of the argument that names it, or none.
 pub(crate) enum Named {
@@ -13,10 +17,13 @@ pub(crate) enum Job {
     Ask,
 }
 
-// A job over the sheet that is named, a sheet file to judge, or arguments that are no form.
+// A job over the sheet that is named, a sheet file to judge, how to go on, the version, a `--sheet FILE` that does not stand at the end, or arguments that are no form.
 pub(crate) enum Form {
     Over(Job, Named),
     Sheet(usize),
+    Help,
+    Version,
+    Misplaced,
     Wrong,
 }
 
@@ -30,16 +37,31 @@ fn word_is(i: usize, word: &[u8]) -> bool {
     check::same(&text[..n], word)
 }
 
-// The form of the arguments.
+// The form of the arguments: `--sheet` is the last word but one, or stands nowhere.
 pub(crate) fn read() -> Form {
     let count = os::arg_count();
-    if count < 3 {
+    let at = first_sheet(count);
+    if at == count {
         return form_of(count, Named::Nothing);
     }
-    if word_is(count - 2, b"--sheet") {
-        return form_of(count - 2, Named::Argument(count - 1));
+    if count - at == 2 {
+        return form_of(at, Named::Argument(at + 1));
     }
-    form_of(count, Named::Nothing)
+    Form::Misplaced
+}
+
+// The place of the first `--sheet` among so many words, or their number where there is none.
+fn first_sheet(count: usize) -> usize
+    ensures { λ r. ⌜ r ≤ count ⌝ }
+{
+    let mut i = 1;
+    while i < count {
+        if word_is(i, b"--sheet") {
+            return i;
+        }
+        i += 1;
+    }
+    count
 }
 
 // The form of so many words, the program's name among them, with the sheet that is named after them.
@@ -64,6 +86,23 @@ fn alone(named: Named) -> Form {
     if word_is(1, b"walk") {
         return Form::Over(Job::Walk(Named::Nothing), named);
     }
+    match named {
+        Named::Nothing => about(),
+        Named::Argument(_) => Form::Wrong,
+    }
+}
+
+// The form of a word about the program, over no sheet.
+fn about() -> Form {
+    if word_is(1, b"--help") {
+        return Form::Help;
+    }
+    if word_is(1, b"-h") {
+        return Form::Help;
+    }
+    if word_is(1, b"--version") {
+        return Form::Version;
+    }
     Form::Wrong
 }
 
@@ -86,8 +125,36 @@ fn judged(named: Named) -> Form {
     }
 }
 
-// Opens the file that an argument names. Answers its descriptor, or -1 after a line on standard error.
-pub(crate) fn open(i: usize) -> i32 {
+// A byte of a file's name, `?` for a control byte, which would steer a terminal.
+fn shown(b: u8) -> u8
+    ensures { λ r. ⌜ r ≡ shownByte b ⌝ }
+{
+    if b < 32 {
+        return 63;
+    }
+    if b == 127 { 63 } else { b }
+}
+
+// Puts `?` for each control byte.
+fn hide(name: &mut [u8]) {
+    let mut i = 0;
+    while i < name.len() {
+        name[i] = shown(name[i]);
+        i += 1;
+    }
+}
+
+// Puts the name of the file that an argument is into the buffer, as a line on standard error shows it. Answers its length.
+pub(crate) fn show(i: usize, name: &mut [u8]) -> usize
+    ensures { λ r. ⌜ r ≤ length (now (name .exit)) ⌝ }
+{
+    let n = os::arg(i, name);
+    hide(name);
+    n
+}
+
+// Opens the file that an argument names. Answers its descriptor, or -1 after a line on standard error that shows the name.
+pub(crate) fn open(i: usize, name: &[u8]) -> i32 {
     let mut path = io::buffer();
     let n = os::arg(i, &mut path);
     if os::errno() != 0 {
@@ -96,7 +163,7 @@ pub(crate) fn open(i: usize) -> i32 {
     }
     let fd = os::open_read(&path[..n]);
     if fd < 0 {
-        os::fail(&path[..n]);
+        os::fail(name);
     }
     fd
 }

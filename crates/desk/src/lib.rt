@@ -5,13 +5,14 @@ mod asking;
 mod lines;
 mod pages;
 mod questions;
+mod refusals;
 mod sheets;
 
 use arguments::Form;
 use arguments::Job;
 use arguments::Named;
 use sheet::SheetAnswer;
-use sheets::Verdict;
+use sheets::Text;
 ghost use Rattle.console.specs.Answers.{Judged};
 
 // Does what the arguments ask for.
@@ -19,6 +20,9 @@ pub fn run() {
     match arguments::read() {
         Form::Over(job, named) => over_sheet(job, named),
         Form::Sheet(i) => sheets::report(i),
+        Form::Help => pages::print_usage(),
+        Form::Version => pages::print_version(),
+        Form::Misplaced => pages::say_misplaced(),
         Form::Wrong => pages::say_usage(),
     }
 }
@@ -31,10 +35,20 @@ fn over_sheet(job: Job, named: Named) {
             let verdict = sheet::judge_sheet(&list);
             serve(job, verdict, &list);
         }
-        Named::Argument(i) => match sheets::read(i, &mut list) {
-            Verdict::Is(verdict) => serve(job, verdict, &list),
-            Verdict::Unread => (),
-        },
+        Named::Argument(i) => over_file(job, i, &mut list),
+    }
+}
+
+// Does a job over the sheet of a file.
+fn over_file(job: Job, i: usize, list: &mut [u32]) {
+    let mut bytes = io::large_buffer();
+    match sheets::read(i, &mut bytes) {
+        Text::Bytes(n) => {
+            let verdict = sheets::judge(&bytes[..n], list);
+            sheets::say_return(verdict, &bytes[..n]);
+            serve(job, verdict, list);
+        }
+        Text::Unread => (),
     }
 }
 

@@ -33,6 +33,44 @@ pub(crate) fn say_usage() {
     stream::say(&out, end);
 }
 
+// Prints how to go on.
+pub(crate) fn print_usage() {
+    let mut out = io::buffer();
+    let end = put_usage(&mut out, 0);
+    stream::flush(&out, Output::At(end));
+}
+
+// Prints the version, and which sheet is built in.
+pub(crate) fn print_version() {
+    let mut out = [0u8; 64];
+    let end = text::put_text(
+        b"gas keys 1, built-in sheet: R. & M. 3099, Table 5\n",
+        &mut out,
+        0,
+    );
+    stream::flush(&out, Output::At(end));
+}
+
+// Says on standard error where `--sheet FILE` belongs.
+pub(crate) fn say_misplaced() {
+    let mut out = [0u8; 64];
+    let end = text::put_text(b"keys: --sheet FILE stands at the end\n", &mut out, 0);
+    stream::say(&out, end);
+}
+
+// Says on standard error which row of a sheet's text has a carriage return.
+pub(crate) fn say_returned_row(row: u32) {
+    let mut out = [0u8; 96];
+    let word = text::put_text(b"row ", &mut out, 0);
+    let number = text::put_decimal(row as u64, &mut out, word);
+    let end = text::put_text(
+        b" has a carriage return; lines end in a line feed alone\n",
+        &mut out,
+        number,
+    );
+    stream::say(&out, end);
+}
+
 // Prints document 01's walk, A 1, no fuel, from 200,000 mK, and how to go on.
 pub(crate) fn print_example(verdict: SheetAnswer, sheet: &[u32])
     requires { ⌜ Judged verdict (now sheet) ⌝ }

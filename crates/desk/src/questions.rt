@@ -3,6 +3,7 @@
 use crate::arguments;
 use crate::arguments::Named;
 use crate::lines;
+use crate::refusals;
 use air::Millikelvin;
 use fields::Four;
 use gas::Charge;
@@ -11,18 +12,21 @@ use sheet::SheetAnswer;
 use stream::Got;
 use stream::Held;
 use stream::Output;
-ghost use Prim.Native.Nat.{_≤_};
+ghost use Prim.Native.Nat.{_≤_, min};
 ghost use mathlib.Core.Path.{_≡_};
-ghost use lib.ListN.{length};
+ghost use lib.ListN.{length, set};
+ghost use Rattle.text.specs.Put.{Put};
 ghost use Rattle.console.specs.Answers.{Judged};
+ghost use Rattle.desk.specs.Questions.{keptLine, questionPage};
 
 // A start and the steps of a walk that is one step too long: where the list is full, document 01 refuses the walk with 13.
 const PLACES: usize = 264;
 
-// A question so far: how many lines were good, the number of the line that was not, or an input that could not be read.
+// A question so far: how many lines were good, the number of the line that was not four numbers or that had a carriage return, or an input that could not be read.
 enum Question {
     Good(u64),
     Bad(u64),
+    Returned(u64),
     Unread,
 }
 
@@ -37,26 +41,33 @@ pub(crate) fn print(named: Named, verdict: SheetAnswer, sheet: &[u32])
     requires { ⌜ Judged verdict (now sheet) ⌝ }
 {
     match named {
-        Named::Nothing => print_from(STDIN_FILENO, verdict, sheet),
-        Named::Argument(i) => {
-            let fd = arguments::open(i);
-            if fd < 0 {
-                return;
-            }
-            print_from(fd, verdict, sheet);
-            libc::close(fd);
-        }
+        Named::Nothing => print_from(STDIN_FILENO, b"standard input", verdict, sheet),
+        Named::Argument(i) => print_file(i, verdict, sheet),
     }
 }
 
+// Prints the walk of the question in the file that an argument names.
+fn print_file(i: usize, verdict: SheetAnswer, sheet: &[u32])
+    requires { ⌜ Judged verdict (now sheet) ⌝ }
+{
+    let mut name = io::buffer();
+    let n = arguments::show(i, &mut name);
+    let fd = arguments::open(i, &name[..n]);
+    if fd < 0 {
+        return;
+    }
+    print_from(fd, &name[..n], verdict, sheet);
+    libc::close(fd);
+}
+
 // Prints the walk of an input's question, or says what is wrong with it.
-fn print_from(fd: i32, verdict: SheetAnswer, sheet: &[u32])
+fn print_from(fd: i32, name: &[u8], verdict: SheetAnswer, sheet: &[u32])
     requires { ⌜ Judged verdict (now sheet) ⌝ }
 {
     let mut piece = io::large_buffer();
     let mut line = io::large_buffer();
     let mut numbers = [0i64; PLACES];
-    match read_all(fd, &mut piece, &mut line, &mut numbers) {
+    match read_all(fd, name, &mut piece, &mut line, &mut numbers) {
         Question::Good(lines) => {
             if lines == 0 {
                 say_bad(1);
@@ -65,6 +76,7 @@ fn print_from(fd: i32, verdict: SheetAnswer, sheet: &[u32])
             }
         }
         Question::Bad(line) => say_bad(line),
+        Question::Returned(line) => say_returned(line),
         Question::Unread => (),
     }
 }
@@ -75,14 +87,18 @@ fn one_more(n: u64) -> u64 {
 }
 
 // Puts a number at a place of the list, where there is one.
-fn keep(numbers: &mut [i64], at: usize, z: i64) {
+fn keep(numbers: &mut [i64], at: usize, z: i64)
+    ensures { λ _. ⌜ now (numbers .exit) ≡ set (now (numbers .entry)) at z ⌝ }
+{
     if at < numbers.len() {
         numbers[at] = z;
     }
 }
 
 // Keeps the four numbers of line k, where the list has places for them.
-fn keep_line(numbers: &mut [i64], k: u64, a: i64, b: i64, c: i64, d: i64) {
+fn keep_line(numbers: &mut [i64], k: u64, a: i64, b: i64, c: i64, d: i64)
+    ensures { λ _. ⌜ now (numbers .exit) ≡ keptLine k a b c d (now (numbers .entry)) ⌝ }
+{
     if k < 66 {
         let at = 4 * (k as usize);
         keep(numbers, at, a);
@@ -97,6 +113,9 @@ fn take(question: Question, line: &[u8], numbers: &mut [i64]) -> Question {
     let Question::Good(k) = question else {
         return question;
     };
+    if fields::holds_return(line) {
+        return Question::Returned(one_more(k));
+    }
     match fields::read_four(line, 0) {
         Four::Are(a, b, c, d) => {
             keep_line(numbers, k, a, b, c, d);
@@ -147,7 +166,13 @@ fn take_last(turn: Turn, line: &[u8], numbers: &mut [i64]) -> Question {
 }
 
 // The whole question of an input, its turns counted down.
-fn read_all(fd: i32, piece: &mut [u8], line: &mut [u8], numbers: &mut [i64]) -> Question {
+fn read_all(
+    fd: i32,
+    name: &[u8],
+    piece: &mut [u8],
+    line: &mut [u8],
+    numbers: &mut [i64],
+) -> Question {
     let mut turn = Turn {
         held: Held::Bytes(0),
         question: Question::Good(0),
@@ -155,7 +180,7 @@ fn read_all(fd: i32, piece: &mut [u8], line: &mut [u8], numbers: &mut [i64]) -> 
     let mut turns = u64::MAX;
     while turns > 0 {
         turns -= 1;
-        match stream::read_some(fd, b"the question", piece) {
+        match stream::read_some(fd, name, piece) {
             Got::Bytes(n) => {
                 turn = take_piece(turn, &piece[..n], line, numbers);
             }
@@ -173,16 +198,23 @@ fn read_all(fd: i32, piece: &mut [u8], line: &mut [u8], numbers: &mut [i64]) -> 
 // How many of so many lines the list holds.
 fn kept(lines: u64) -> usize
     requires { ⌜ 1 ≤ lines ⌝ }
-    ensures { λ r. ⌜ (1 ≤ r) × (r ≤ 66) ⌝ }
+    ensures { λ r. ⌜ (1 ≤ r) × (r ≡ min lines 66) ⌝ }
 {
     if lines < 66 { lines as usize } else { 66 }
 }
 
-// Prints the walk of a question of so many lines.
-fn print_walk(lines: u64, numbers: &[i64], verdict: SheetAnswer, sheet: &[u32])
+// The printed walk of a question of so many lines.
+fn put_page(
+    lines: u64,
+    numbers: &[i64],
+    verdict: SheetAnswer,
+    sheet: &[u32],
+    out: &mut [u8],
+    at: usize,
+) -> usize
     requires { ⌜ Judged verdict (now sheet) × (length (now numbers) ≡ 264) × (1 ≤ lines) ⌝ }
+    ensures { λ r. ⌜ Put (questionPage verdict (now (sheet .entry)) lines (now (numbers .entry))) (now (out .entry)) at r (now (out .exit)) ⌝ }
 {
-    let mut out = io::buffer();
     let start = Charge {
         air: numbers[0],
         carbon: numbers[1],
@@ -190,16 +222,18 @@ fn print_walk(lines: u64, numbers: &[i64], verdict: SheetAnswer, sheet: &[u32])
     };
     let t = Millikelvin(numbers[3]);
     let end = 4 * kept(lines);
-    let next = console::inner::print_judged(
-        start,
-        t,
-        &numbers[4..end],
-        verdict,
-        sheet,
-        &mut out,
-        0,
-    );
+    console::inner::print_judged(start, t, &numbers[4..end], verdict, sheet, out, at)
+}
+
+// Prints the walk of a question of so many lines.
+fn print_walk(lines: u64, numbers: &[i64], verdict: SheetAnswer, sheet: &[u32])
+    requires { ⌜ Judged verdict (now sheet) × (length (now numbers) ≡ 264) × (1 ≤ lines) ⌝ }
+{
+    let mut out = io::buffer();
+    let next = put_page(lines, numbers, verdict, sheet, &mut out, 0);
     stream::flush(&out, Output::At(next));
+    let end = 4 * kept(lines);
+    refusals::say(numbers, end, verdict, sheet);
 }
 
 // Says on standard error which line is not what was expected.
@@ -223,4 +257,17 @@ fn put_expected(line: u64, out: &mut [u8], at: usize) -> usize {
     } else {
         text::put_text(b"c, h, calorific value, q\n", out, at)
     }
+}
+
+// Says on standard error which line has a carriage return.
+fn say_returned(line: u64) {
+    let mut out = [0u8; 160];
+    let word = text::put_text(b"line ", &mut out, 0);
+    let number = text::put_decimal(line, &mut out, word);
+    let end = text::put_text(
+        b": a carriage return; lines end in a line feed alone\n",
+        &mut out,
+        number,
+    );
+    stream::say(&out, end);
 }

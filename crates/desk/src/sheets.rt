@@ -1,33 +1,29 @@
-// Sheet files: read, judged once, reported. A good sheet has at most 46,826 bytes, so a longer text has its first bad byte among the first 65,536, and no more are read.
+// Sheet files: read, judged once, reported. A good sheet has at most 46,026 bytes, so a longer text has its first bad byte among the first 65,536, and no more are read.
 use crate::arguments;
 use crate::pages;
+use air::Refusal;
 use sheet::SheetAnswer;
 use stream::Got;
 ghost use Prim.Native.Nat.{_≤_};
-ghost use Rattle.console.specs.Answers.{Judged};
-ghost use Rattle.desk.specs.Sheets.{Filled, Known};
+ghost use lib.ListN.{length};
+ghost use Rattle.console.specs.Answers.{Verdict};
+ghost use Rattle.desk.specs.Sheets.{Filled};
 
-// The verdict on a sheet file, or that it could not be read.
-pub(crate) enum Verdict {
-    Is(SheetAnswer),
-    Unread,
-}
-
-// How many bytes of a file stand in the buffer, or that a read failed.
-enum Text {
+// How many bytes of a file stand in the buffer, or that it could not be read.
+pub(crate) enum Text {
     Bytes(usize),
     Unread,
 }
 
-// Fills the buffer from a file, up to the file's end or its own.
-fn fill(fd: i32, piece: &mut [u8], bytes: &mut [u8]) -> Text
+// Fills the buffer from a file, up to the file's end or its own. A failure's line shows the file's name.
+fn fill(fd: i32, name: &[u8], piece: &mut [u8], bytes: &mut [u8]) -> Text
     ensures { λ r. ⌜ Filled r (now (bytes .exit)) ⌝ }
 {
     let mut n = 0;
     let mut turns = u64::MAX;
     while turns > 0 {
         turns -= 1;
-        match stream::read_some(fd, b"the sheet file", piece) {
+        match stream::read_some(fd, name, piece) {
             Got::Bytes(more) => {
                 n = text::put_text(&piece[..more], bytes, n);
                 turns = turns_left(turns, n, bytes.len());
@@ -50,9 +46,25 @@ fn turns_left(turns: u64, n: usize, places: usize) -> u64
     if n < places { turns } else { 0 }
 }
 
-// Judges the text of a sheet: by its form, and then by the step rule.
-fn judge(bytes: &[u8], list: &mut [u32]) -> SheetAnswer
-    ensures { λ r. ⌜ Judged r (now (list .exit)) ⌝ }
+// Reads the file that an argument names into the buffer.
+pub(crate) fn read(i: usize, bytes: &mut [u8]) -> Text
+    ensures { λ r. ⌜ Filled r (now (bytes .exit)) ⌝ }
+{
+    let mut name = io::buffer();
+    let n = arguments::show(i, &mut name);
+    let fd = arguments::open(i, &name[..n]);
+    if fd < 0 {
+        return Text::Unread;
+    }
+    let mut piece = io::large_buffer();
+    let text = fill(fd, &name[..n], &mut piece, bytes);
+    libc::close(fd);
+    text
+}
+
+// The verdict on the text of a sheet: by its form, and then by the step rule.
+pub(crate) fn judge(bytes: &[u8], list: &mut [u32]) -> SheetAnswer
+    ensures { λ r. ⌜ Verdict (now (bytes .entry)) (now (list .entry)) r (now (list .exit)) ⌝ }
 {
     match sheet::read_sheet(bytes, list) {
         SheetAnswer::Good => sheet::judge_sheet(list),
@@ -60,36 +72,72 @@ fn judge(bytes: &[u8], list: &mut [u32]) -> SheetAnswer
     }
 }
 
-// Reads and judges an open sheet file.
-fn judge_file(fd: i32, list: &mut [u32]) -> Verdict
-    ensures { λ r. ⌜ Known r (now (list .exit)) ⌝ }
-{
-    let mut piece = io::large_buffer();
-    let mut bytes = io::large_buffer();
-    match fill(fd, &mut piece, &mut bytes) {
-        Text::Bytes(n) => Verdict::Is(judge(&bytes[..n], list)),
-        Text::Unread => Verdict::Unread,
+// Says on standard error that the row for which a text is refused has a carriage return.
+pub(crate) fn say_return(verdict: SheetAnswer, bytes: &[u8]) {
+    let SheetAnswer::Refused(refusal) = verdict else {
+        return;
+    };
+    let Refusal::AtRow(number, row) = refusal else {
+        return;
+    };
+    if number == 2 {
+        let from = row_start(row, bytes);
+        let end = row_end(from, bytes);
+        if fields::holds_return(&bytes[from..end]) {
+            pages::say_returned_row(row);
+        }
     }
 }
 
-// Reads and judges the sheet file that an argument names.
-pub(crate) fn read(i: usize, list: &mut [u32]) -> Verdict
-    ensures { λ r. ⌜ Known r (now (list .exit)) ⌝ }
+// Where a row of a text starts.
+fn row_start(row: u32, bytes: &[u8]) -> usize
+    ensures { λ r. ⌜ r ≤ length (now (bytes .entry)) ⌝ }
 {
-    let fd = arguments::open(i);
-    if fd < 0 {
-        return Verdict::Unread;
+    let mut from = 0;
+    let mut left = row;
+    while left > 0 {
+        left -= 1;
+        from = next_row(row_end(from, bytes), bytes);
     }
-    let verdict = judge_file(fd, list);
-    libc::close(fd);
-    verdict
+    from
+}
+
+// Where the row that starts at `from` ends: at its line feed, or where the text does.
+fn row_end(from: usize, bytes: &[u8]) -> usize
+    requires { ⌜ from ≤ length (now bytes) ⌝ }
+    ensures { λ r. ⌜ (from ≤ r) × (r ≤ length (now (bytes .entry))) ⌝ }
+{
+    let mut i = from;
+    while i < bytes.len() {
+        if bytes[i] == 10 {
+            return i;
+        }
+        i += 1;
+    }
+    i
+}
+
+// Where the row after one that ends at `end` starts.
+fn next_row(end: usize, bytes: &[u8]) -> usize
+    ensures { λ r. ⌜ r ≤ length (now (bytes .entry)) ⌝ }
+{
+    if end < bytes.len() {
+        end + 1
+    } else {
+        bytes.len()
+    }
 }
 
 // Says whether the sheet file that an argument names is accepted.
 pub(crate) fn report(i: usize) {
     let mut list = [0u32; 5403];
-    match read(i, &mut list) {
-        Verdict::Is(verdict) => pages::print_verdict(verdict),
-        Verdict::Unread => (),
+    let mut bytes = io::large_buffer();
+    match read(i, &mut bytes) {
+        Text::Bytes(n) => {
+            let verdict = judge(&bytes[..n], &mut list);
+            say_return(verdict, &bytes[..n]);
+            pages::print_verdict(verdict);
+        }
+        Text::Unread => (),
     }
 }

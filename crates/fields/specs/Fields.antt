@@ -1,6 +1,6 @@
 -- The fields of a line, parted by tabs, and the whole numbers that they are, each written in decimal as a number is printed.
 use Prim.Native.Nat.{ℕ, suc, _+_, min}
-use mathlib.Core.Bool.{Bool, false, cond}
+use mathlib.Core.Bool.{Bool, true, false, cond}
 use mathlib.Core.Path.{_≡_}
 use mathlib.Core.List.{List, [], _∷_}
 use lib.Dec.{leb, eqb}
@@ -23,6 +23,11 @@ use Rattle.fields.specs.declared.Four.the-variants.{Are as AreFour, Not 
 abbrev pub spanOf : List ℕ → ℕ
 spanOf [] = 0
 spanOf (b ∷ bs) = cond (eqb b 9) 0 (suc (spanOf bs))
+
+-- a carriage return stands in the line
+abbrev pub holdsReturn : List ℕ → Bool
+holdsReturn [] = false
+holdsReturn (b ∷ bs) = cond (eqb b 13) true (holdsReturn bs)
 
 -- a byte in front of the first field
 abbrev pub onHead : ℕ → List (List ℕ) → List (List ℕ)
@@ -56,10 +61,19 @@ abbrev pub countAll : ℕ → List (List ℕ) → Numbers
 countAll n [] = Count n
 countAll n (f ∷ fs) = countNext (wholeOf f) (countAll (n + 1) fs)
 
--- where all are numbers they stand in the list from its start, as far as it reaches
+-- the numbers of the fields before the first that is none
+abbrev pub leadingNext : Whole → List ℤ → List ℤ
+leadingNext (Is z) zs = z ∷ zs
+leadingNext Not zs = []
+
+abbrev pub leadingOf : List (List ℕ) → List ℤ
+leadingOf [] = []
+leadingOf (f ∷ fs) = leadingNext (wholeOf f) (leadingOf fs)
+
+-- where all are numbers they stand in the list from its start, as far as it reaches; where one is none, those before it
 abbrev pub Stored : List (List ℕ) → List ℤ → Numbers → List ℤ → Type 0
 Stored fs before (Count n) later = later ≡ sets before 0 (valuesOf fs)
-Stored fs before Bad later = Unit {0}
+Stored fs before Bad later = later ≡ sets before 0 (leadingOf fs)
 
 -- how many numbers a list of so many places holds
 abbrev pub heldOf : Numbers → ℕ → ℕ

@@ -13,7 +13,7 @@ use lib.IntN.{ℤ}
 use Rattle.text.specs.Reading.{wholeOf}
 use Rattle.text.specs.declared.Whole.{Whole}
 use Rattle.text.specs.declared.Whole.the-variants.{Is, Not}
-use Rattle.fields.specs.Fields.{spanOf, onHead, fieldsOf, fieldsFrom, valuesOf, countNext, countAll, Stored, heldOf, isCount}
+use Rattle.fields.specs.Fields.{spanOf, onHead, fieldsOf, fieldsFrom, holdsReturn, valueOf, valuesOf, countNext, countAll, leadingNext, leadingOf, Stored, heldOf, isCount}
 use Rattle.fields.specs.declared.Numbers.{Numbers}
 use Rattle.fields.specs.declared.Numbers.the-variants.{Count, Bad}
 
@@ -111,9 +111,35 @@ count-next l p e n z h q r = rw (fields-at l p e h q, r) refl
 pub count-bad : (l : List ℕ) (p e n : ℕ) → p ≤ length l → e ≡ p + spanOf (drop p l) → wholeOf (take (e - p) (drop p l)) ≡ Not → countAll n (fieldsFrom l p) ≡ Bad
 count-bad l p e n h q r = rw (fields-at l p e h q, r) refl
 
-pub sets-next : (l : List ℕ) (p e n : ℕ) (z : ℤ) (list : List ℤ) → p ≤ length l → e ≡ p + spanOf (drop p l) → wholeOf (take (e - p) (drop p l)) ≡ Is z
-    → sets list n (valuesOf (fieldsFrom l p)) ≡ sets (set list n z) (n + 1) (valuesOf (fieldsFrom l (e + 1)))
-sets-next l p e n z list h q r = rw (add-one n, fields-at l p e h q, r) refl
+pub leading-next : (l : List ℕ) (p e n : ℕ) (z : ℤ) (list : List ℤ) → p ≤ length l → e ≡ p + spanOf (drop p l) → wholeOf (take (e - p) (drop p l)) ≡ Is z
+    → sets list n (leadingOf (fieldsFrom l p)) ≡ sets (set list n z) (n + 1) (leadingOf (fieldsFrom l (e + 1)))
+leading-next l p e n z list h q r = rw (add-one n, fields-at l p e h q, r) refl
+
+pub leading-bad : (l : List ℕ) (p e : ℕ) → p ≤ length l → e ≡ p + spanOf (drop p l) → wholeOf (take (e - p) (drop p l)) ≡ Not → leadingOf (fieldsFrom l p) ≡ []
+leading-bad l p e h q r = rw (fields-at l p e h q, r) refl
+
+-- where all are numbers, all lead
+pub leading-all : (fs : List (List ℕ)) (n k : ℕ) → countAll n fs ≡ Count k → leadingOf fs ≡ valuesOf fs
+leading-all [] n k e = refl
+leading-all (f ∷ fs) n k e = go (wholeOf f) e (λ q. leading-all fs (n + 1) k q)
+  where
+    go : (w : Whole) → countNext w (countAll (n + 1) fs) ≡ Count k → (countAll (n + 1) fs ≡ Count k → leadingOf fs ≡ valuesOf fs) → leadingNext w (leadingOf fs) ≡ valueOf w ∷ valuesOf fs
+    go (Is z) e i = ap (λ (zs : List ℤ). z ∷ zs) (i e)
+    go Not e i = absurd (let z : _≡_ {A = ℕ} 0 1 = cc in omega arith)
+
+-- ---- a carriage return, from a place on
+pub return-here : (l : List ℕ) (i : ℕ) → i < length l → getD l i 0 ≡ 13 → holdsReturn (drop i l) ≡ true
+return-here l i h e = rw (drop-cons l i 0 h, eq-eqb (getD l i 0) 13 e) refl
+
+pub return-later : (l : List ℕ) (i : ℕ) → i < length l → (getD l i 0 ≡ 13 → ⊥) → holdsReturn (drop i l) ≡ holdsReturn (drop (i + 1) l)
+return-later l i h e = rw (add-one i, drop-cons l i 0 h, ne-eqb (getD l i 0) 13 e) refl
+
+pub return-none : (l : List ℕ) (i : ℕ) → length l ≤ i → holdsReturn (drop i l) ≡ false
+return-none l i h = none (drop i l) (omega (arith, length-drop i l))
+  where
+    none : (x : List ℕ) → length x ≡ 0 → holdsReturn x ≡ false
+    none [] e = refl
+    none (a ∷ x) e = absurd (omega arith)
 
 -- all numbers are counted
 pub count-is : (fs : List (List ℕ)) (n k : ℕ) → countAll n fs ≡ Count k → k ≡ n + length (valuesOf fs)

@@ -1,9 +1,9 @@
 // The fields of a line, parted by tabs, and the whole numbers that they are (specs/Fields.antt). For the console above and its programs: every function
-// takes every input and promises an equation, but that a list is left open where a field is no number.
+// takes every input and promises an equation.
 ghost use mathlib.Core.Path.{_≡_};
 ghost use Prim.Native.Nat.{_+_};
 ghost use lib.ListN.{length, set, drop};
-ghost use Rattle.fields.specs.Fields.{spanOf, fieldsFrom, countAll, Stored, heldOf, isCount, oneOf, twoOf, threeOf, fourOf};
+ghost use Rattle.fields.specs.Fields.{spanOf, fieldsFrom, holdsReturn, countAll, Stored, heldOf, isCount, oneOf, twoOf, threeOf, fourOf};
 use text::Whole;
 
 // How many numbers the fields are, or that one of them is none.
@@ -44,6 +44,20 @@ pub fn field_end(line: &[u8], from: usize) -> usize
     i
 }
 
+// Whether the line holds a carriage return: no line ends in one.
+pub fn holds_return(line: &[u8]) -> bool
+    ensures { λ r. ⌜ r ≡ holdsReturn (now (line .entry)) ⌝ }
+{
+    let mut i = 0;
+    while i < line.len() {
+        if line[i] == 13 {
+            return true;
+        }
+        i += 1;
+    }
+    false
+}
+
 // Puts the number at n, where the list has that place.
 fn keep(list: &mut [i64], n: usize, z: i64)
     ensures { λ _. ⌜ now (list .exit) ≡ set (now (list .entry)) n z ⌝ }
@@ -53,7 +67,7 @@ fn keep(list: &mut [i64], n: usize, z: i64)
     }
 }
 
-// The fields from `from` on as whole numbers, as many as the list has places; all are counted.
+// The fields from `from` on as whole numbers, as many as the list has places, up to the first that is none; all are counted.
 pub fn read_numbers(line: &[u8], from: usize, list: &mut [i64]) -> Numbers
     ensures { λ r. ⌜ r ≡ countAll 0 (fieldsFrom (now (line .entry)) from) ⌝ }
     ensures { λ r. ⌜ Stored (fieldsFrom (now (line .entry)) from) (now (list .entry)) r (now (list .exit)) ⌝ }

@@ -1,4 +1,5 @@
-use Rattle.console.specs.JudgedLaws.{judged-of, judged-once}
+use Rattle.console.specs.Answers.{ofList}
+use Rattle.console.specs.JudgedLaws.{judged-once}
 use borrow.Author.Needs.{needs}
 use Rattle.console.proofs.answer.Statement.{statement}
 use Rattle.console.proofs.answer.Tie as tie
@@ -7,7 +8,7 @@ judge-sheet-requires : tie.Need-judge-sheet-requires
 judge-sheet-requires c κs = search needs
 
 answer-judged-requires : tie.Need-answer-judged-requires
-answer-judged-requires c κs = judged-of (c .before .before .before .before .before .args .sheet .now) (c .before .judge-sheet .result) (c .before .judge-sheet .ensures)
+answer-judged-requires c κs = ofList (c .before .judge-sheet .ensures)
 
 same-length : tie.Need-same-length
 same-length c = search needs

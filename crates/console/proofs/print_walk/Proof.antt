@@ -1,4 +1,5 @@
-use Rattle.console.specs.JudgedLaws.{judged-of, printed-once}
+use Rattle.console.specs.Answers.{ofList}
+use Rattle.console.specs.JudgedLaws.{printed-once}
 use borrow.Author.Needs.{needs}
 use Rattle.console.proofs.print_walk.Statement.{statement}
 use Rattle.console.proofs.print_walk.Tie as tie
@@ -7,7 +8,7 @@ judge-sheet-requires : tie.Need-judge-sheet-requires
 judge-sheet-requires c κs = search needs
 
 print-judged-requires : tie.Need-print-judged-requires
-print-judged-requires c κs = judged-of (c .before .before .before .before .args .sheet .now) (c .before .judge-sheet .result) (c .before .judge-sheet .ensures)
+print-judged-requires c κs = ofList (c .before .judge-sheet .ensures)
 
 same-length : tie.Need-same-length
 same-length c = search needs

@@ -1,7 +1,8 @@
+use Rattle.fields.specs.declared.Numbers.the-variants.{Count}
 use mathlib.Core.List.{[]}
 use Rattle.text.specs.declared.Whole.the-variants.{Is}
-use Rattle.fields.specs.FieldsLaws.{span-from, fields-none, count-next, count-bad, sets-next}
-use Rattle.fields.specs.Fields.{fieldsFrom, countAll, valuesOf}
+use Rattle.fields.specs.FieldsLaws.{span-from, fields-none, count-next, count-bad, leading-next, leading-bad, leading-all}
+use Rattle.fields.specs.Fields.{fieldsFrom, countAll, leadingOf}
 use Rattle.text.specs.Reading.{wholeOf}
 use Rattle.signed.specs.Zed.{back}
 use mir.Val.{SFits}
@@ -16,7 +17,7 @@ use Rattle.fields.proofs.read_numbers.Statement.{statement}
 use Rattle.fields.proofs.read_numbers.Tie as tie
 
 abbrev Inv-loop : tie.InvT-loop
-Inv-loop line from list₀ p₀ n₀ list p n = (n ≤ p) × (length list ≡ length list₀) × (countAll 0 (fieldsFrom line from) ≡ countAll n (fieldsFrom line p)) × (sets list₀ 0 (valuesOf (fieldsFrom line from)) ≡ sets list n (valuesOf (fieldsFrom line p)))
+Inv-loop line from list₀ p₀ n₀ list p n = (n ≤ p) × (length list ≡ length list₀) × (countAll 0 (fieldsFrom line from) ≡ countAll n (fieldsFrom line p)) × (sets list₀ 0 (leadingOf (fieldsFrom line from)) ≡ sets list n (leadingOf (fieldsFrom line p)))
 
 abbrev μ-loop : tie.MeasureT-loop
 μ-loop line from list₀ p₀ n₀ list p n = length line + 1 - p
@@ -49,7 +50,7 @@ same-length : tie.Need-same-length Inv-loop μ-loop
 same-length c = c .before .before .before .before .before .before .loop .inv .1
 
 returns : tie.Need-returns Inv-loop μ-loop
-returns c = (sym (c .before .before .before .before .before .before .loop .inv .2 ∙ count-bad (c .before .before .before .before .before .before .before .before .args .line .now) (c .before .before .before .before .before .before .loop .p) (c .before .before .before .before .field-end .result) (c .before .before .before .before .before .before .loop .n) (omega arith) (c .before .before .before .before .field-end .ensures) (sym (c .before .before .read-whole .ensures) ∙ c .enum-told .given .1)), tt)
+returns c = (sym (c .before .before .before .before .before .before .loop .inv .2 ∙ count-bad (c .before .before .before .before .before .before .before .before .args .line .now) (c .before .before .before .before .before .before .loop .p) (c .before .before .before .before .field-end .result) (c .before .before .before .before .before .before .loop .n) (omega arith) (c .before .before .before .before .field-end .ensures) (sym (c .before .before .read-whole .ensures) ∙ c .enum-told .given .1)), sym (c .before .before .before .before .before .before .loop .inv .3 ∙ ap (λ x. sets (c .before .before .before .before .before .before .loop .list) (c .before .before .before .before .before .before .loop .n) x) (leading-bad (c .before .before .before .before .before .before .before .before .args .line .now) (c .before .before .before .before .before .before .loop .p) (c .before .before .before .before .field-end .result) (omega arith) (c .before .before .before .before .field-end .ensures) (sym (c .before .before .read-whole .ensures) ∙ c .enum-told .given .1))))
 
 keep-requires : tie.Need-keep-requires Inv-loop μ-loop
 keep-requires c κs = tt
@@ -70,15 +71,17 @@ loop-again c = let f : SFits w64 (c .before .before .before .before .z .given .0
       omega (arith, c .before .before .before .before .before .before .before .before .field-end .ensures, c .before .before .before .before .before .before .before .before .before .before .loop .inv .0),
       ap length k ∙ (simp length-set (c .before .before .before .before .before .before .before .before .before .before .loop .inv .1)),
       c .before .before .before .before .before .before .before .before .before .before .loop .inv .2 ∙ count-next (c .before .before .before .before .before .before .before .before .before .before .before .before .args .line .now) (c .before .before .before .before .before .before .before .before .before .before .loop .p) (c .before .before .before .before .before .before .before .before .field-end .result) (c .before .before .before .before .before .before .before .before .before .before .loop .n) (c .before .before .before .before .z .given .0 .0) (omega arith) (c .before .before .before .before .before .before .before .before .field-end .ensures) r,
-      c .before .before .before .before .before .before .before .before .before .before .loop .inv .3 ∙ (sets-next (c .before .before .before .before .before .before .before .before .before .before .before .before .args .line .now) (c .before .before .before .before .before .before .before .before .before .before .loop .p) (c .before .before .before .before .before .before .before .before .field-end .result) (c .before .before .before .before .before .before .before .before .before .before .loop .n) (c .before .before .before .before .z .given .0 .0) (c .before .before .before .before .before .before .before .before .before .before .loop .list) (omega arith) (c .before .before .before .before .before .before .before .before .field-end .ensures) r ∙ ap (λ x. sets x (c .before .before .before .before .before .before .before .before .before .before .loop .n + 1) (valuesOf (fieldsFrom (c .before .before .before .before .before .before .before .before .before .before .before .before .args .line .now) (c .before .before .before .before .before .before .before .before .field-end .result + 1)))) (sym k)),
+      c .before .before .before .before .before .before .before .before .before .before .loop .inv .3 ∙ (leading-next (c .before .before .before .before .before .before .before .before .before .before .before .before .args .line .now) (c .before .before .before .before .before .before .before .before .before .before .loop .p) (c .before .before .before .before .before .before .before .before .field-end .result) (c .before .before .before .before .before .before .before .before .before .before .loop .n) (c .before .before .before .before .z .given .0 .0) (c .before .before .before .before .before .before .before .before .before .before .loop .list) (omega arith) (c .before .before .before .before .before .before .before .before .field-end .ensures) r ∙ ap (λ x. sets x (c .before .before .before .before .before .before .before .before .before .before .loop .n + 1) (leadingOf (fieldsFrom (c .before .before .before .before .before .before .before .before .before .before .before .before .args .line .now) (c .before .before .before .before .before .before .before .before .field-end .result + 1)))) (sym k)),
     )
 
 same-length-2 : tie.Need-same-length-2 Inv-loop μ-loop
 same-length-2 c = c .before .loop .inv .1
 
 returns-2 : tie.Need-returns-2 Inv-loop μ-loop
-returns-2 c = let e : fieldsFrom (c .before .before .before .args .line .now) (c .before .loop .p) ≡ [] = fields-none (c .before .before .before .args .line .now) (c .before .loop .p) (omega arith) in
-    (sym (c .before .loop .inv .2 ∙ ap (countAll (c .before .loop .n)) e), sym (c .before .loop .inv .3 ∙ ap (λ x. sets (c .before .loop .list) (c .before .loop .n) (valuesOf x)) e))
+returns-2 c =
+    let e : fieldsFrom (c .before .before .before .args .line .now) (c .before .loop .p) ≡ [] = fields-none (c .before .before .before .args .line .now) (c .before .loop .p) (omega arith) in
+    let n : countAll 0 (fieldsFrom (c .before .before .before .args .line .now) (c .before .before .before .args .from)) ≡ Count (c .before .loop .n) = c .before .loop .inv .2 ∙ ap (countAll (c .before .loop .n)) e in
+    (sym n, sym (ap (λ x. sets (c .before .before .before .args .list .now) 0 x) (sym (leading-all (fieldsFrom (c .before .before .before .args .line .now) (c .before .before .before .args .from)) 0 (c .before .loop .n) n)) ∙ (c .before .loop .inv .3 ∙ ap (λ x. sets (c .before .loop .list) (c .before .loop .n) (leadingOf x)) e)))
 
 pub read-numbers-spec : {M : Type 1} → statement M
 read-numbers-spec =

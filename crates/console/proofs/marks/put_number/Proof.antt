@@ -14,8 +14,8 @@ put-marked-requires c κs = search needs
 enum-told : tie.Need-enum-told
 enum-told c = search needs
 
-put-misfit-requires : tie.Need-put-misfit-requires
-put-misfit-requires c κs = search needs
+put-no-number-requires : tie.Need-put-no-number-requires
+put-no-number-requires c κs = search needs
 
 same-length : tie.Need-same-length
 same-length c = search needs
@@ -27,7 +27,7 @@ same-length-2 : tie.Need-same-length-2
 same-length-2 c = search needs
 
 returns-2 : tie.Need-returns-2
-returns-2 c = rw (c .before .before .before .before .enum-told .given .1) (c .before .before .put-misfit .ensures)
+returns-2 c = rw (c .before .before .before .before .enum-told .given .1) (c .before .before .put-no-number .ensures)
 
 pub put-number-spec : {M : Type 1} → statement M
 put-number-spec =
@@ -37,7 +37,7 @@ put-number-spec =
     in-unit-requires
     put-marked-requires
     enum-told
-    put-misfit-requires
+    put-no-number-requires
     same-length
     returns
     same-length-2

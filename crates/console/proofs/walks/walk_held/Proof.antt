@@ -1,6 +1,7 @@
 use Rattle.console.specs.WalksLaws.{walks-accepted, walks-refused}
 use Rattle.console.specs.Answers.{Judged}
 use Rattle.sheet.specs.declared.SheetAnswer.{SheetAnswer}
+use Rattle.console.specs.JudgedLaws.{judged-good}
 use mathlib.Core.Path.{subst}
 use borrow.Author.Needs.{needs}
 use Rattle.console.proofs.walks.walk_held.Statement.{statement}
@@ -13,7 +14,7 @@ heat-column-requires : tie.Need-heat-column-requires
 heat-column-requires c κs = search needs
 
 walk-judged-requires : tie.Need-walk-judged-requires
-walk-judged-requires c κs = (subst (λ (v : SheetAnswer). Judged v (c .before .before .before .before .before .before .before .before .before .args .sheet .now)) (c .before .before .before .before .before .enum-told .given .1) (c .before .before .before .before .before .before .before .before .before .pre .0), (c .before .before .before .before .heat-column .ensures))
+walk-judged-requires c κs = (judged-good (c .before .before .before .before .before .before .before .before .before .args .sheet .now) (subst (λ (v : SheetAnswer). Judged v (c .before .before .before .before .before .before .before .before .before .args .sheet .now)) (c .before .before .before .before .before .enum-told .given .1) (c .before .before .before .before .before .before .before .before .before .pre .0)), (c .before .before .before .before .heat-column .ensures))
 
 enum-known-verdict : tie.Need-enum-known-verdict
 enum-known-verdict c = search needs
@@ -29,7 +30,7 @@ same-length-3 c = search needs
 
 returns : tie.Need-returns
 returns c =
-    let ok = subst (λ (v : SheetAnswer). Judged v (c .before .before .before .before .before .before .before .before .before .before .before .before .before .before .args .sheet .now)) (c .before .before .before .before .before .before .before .before .before .before .enum-told .given .1) (c .before .before .before .before .before .before .before .before .before .before .before .before .before .before .pre .0) in
+    let ok = judged-good (c .before .before .before .before .before .before .before .before .before .before .before .before .before .before .args .sheet .now) (subst (λ (v : SheetAnswer). Judged v (c .before .before .before .before .before .before .before .before .before .before .before .before .before .before .args .sheet .now)) (c .before .before .before .before .before .before .before .before .before .before .enum-told .given .1) (c .before .before .before .before .before .before .before .before .before .before .before .before .before .before .pre .0)) in
     rw (c .before .before .before .before .before .before .before .before .before .before .enum-told .given .1) (rw (c .before .before .before .before .before .before .before .before .before .before .before .before .before .before .pre .1, c .before .before .before .before .before .before .before .before .before .before .before .before .before .before .pre .2, c .before .before .before .before .before .before .before .before .before .before .before .before .before .before .pre .3, walks-accepted (c .before .before .before .before .before .before .before .before .before .before .before .before .before .before .args .charge) ((c .before .before .before .before .before .before .before .before .before .before .before .before .before .before .args .t) .0) (c .before .before .before .before .before .before .before .before .before .before .before .before .before .before .args .steps .now) ok) at (c .before .before .before .before .walk-judged .ensures))
 
 returns-2 : tie.Need-returns-2

@@ -1,29 +1,26 @@
-use Rattle.stream.specs.Taking.{Inside}
-use Rattle.stream.specs.declared.Got.{Got}
 use lib.ListN.{length-take}
+use Rattle.stream.specs.declared.Got.{Got}
+use Rattle.stream.specs.Taking.{Inside}
 use mathlib.Core.Path.{subst}
+use borrow.Author.Needs.{needs}
 use native.Mathlib.Omega.{arith}
-use lib.ListN.{length}
 use mathlib.Core.Path.{_≡_}
 use Prim.Native.Nat.{_-_, _≤_}
-use borrow.Author.Needs.{needs}
+use lib.ListN.{length}
 use Rattle.desk.proofs.sheets.fill.Statement.{statement}
 use Rattle.desk.proofs.sheets.fill.Tie as tie
 
 abbrev Inv-loop : tie.InvT-loop
-Inv-loop fd piece₀ bytes₀ n₀ turns₀ t7 piece bytes n turns = (n ≤ length bytes) × (length bytes ≡ length bytes₀) × (length piece ≡ length piece₀)
+Inv-loop fd name piece₀ bytes₀ n₀ turns₀ piece bytes n turns = (n ≤ length bytes) × (length bytes ≡ length bytes₀) × (length piece ≡ length piece₀)
 
 abbrev μ-loop : tie.MeasureT-loop
-μ-loop fd piece₀ bytes₀ n₀ turns₀ t7 piece bytes n turns = turns
+μ-loop fd name piece₀ bytes₀ n₀ turns₀ piece bytes n turns = turns
 
 loop-holds : tie.Need-loop-holds Inv-loop μ-loop
 loop-holds c = search needs
 
 sub-turns : tie.Need-sub-turns Inv-loop μ-loop
 sub-turns c = search needs
-
-slice-aggregate-read-some : tie.Need-slice-aggregate-read-some Inv-loop μ-loop
-slice-aggregate-read-some c = search needs
 
 read-some-requires : tie.Need-read-some-requires Inv-loop μ-loop
 read-some-requires c κs = search needs
@@ -87,7 +84,6 @@ fill-spec =
     μ-loop
     loop-holds
     sub-turns
-    slice-aggregate-read-some
     read-some-requires
     enum-known-more
     slice-reshare-prefix-put-text

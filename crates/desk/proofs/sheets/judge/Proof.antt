@@ -1,4 +1,4 @@
-use Rattle.console.specs.JudgedLaws.{judged-of}
+use mathlib.Core.Path.{refl}
 use borrow.Author.Needs.{needs}
 use Rattle.desk.proofs.sheets.judge.Statement.{statement}
 use Rattle.desk.proofs.sheets.judge.Tie as tie
@@ -19,13 +19,13 @@ same-length : tie.Need-same-length
 same-length c = search needs
 
 returns : tie.Need-returns
-returns c = judged-of (c .before .before .before .before .before .before .read-sheet .last .1 .0) (c .judge-sheet .result) (c .judge-sheet .ensures)
+returns c = record { read = c .before .before .before .before .before .before .read-sheet .result; reading = c .before .before .before .before .before .before .read-sheet .ensures; judged = rw (c .before .before .enum-told .given .1) (c .judge-sheet .ensures) }
 
 same-length-2 : tie.Need-same-length-2
 same-length-2 c = search needs
 
 returns-2 : tie.Need-returns-2
-returns-2 c = search needs
+returns-2 c = record { read = c .before .before .before .before .before .read-sheet .result; reading = c .before .before .before .before .before .read-sheet .ensures; judged = rw (c .before .refusal .given .1) refl }
 
 pub judge-spec : {M : Type 1} → statement M
 judge-spec =

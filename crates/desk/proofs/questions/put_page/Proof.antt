@@ -1,0 +1,70 @@
+use Prim.Native.Nat.{_*_, _-_, min}
+use mathlib.Core.Path.{_≡_}
+use native.Mathlib.Omega.{arith}
+use Rattle.signed.specs.Zed.{back}
+use mir.Val.{SFits}
+use mir.Syntax.{w64}
+use lib.IntN.{pos}
+use lib.ListN.{getD}
+use borrow.Author.Needs.{needs}
+use Rattle.desk.proofs.questions.put_page.Statement.{statement}
+use Rattle.desk.proofs.questions.put_page.Tie as tie
+
+shared-slice-copy-out-t11 : tie.Need-shared-slice-copy-out-t11
+shared-slice-copy-out-t11 c = search needs
+
+shared-slice-copy-out-t13 : tie.Need-shared-slice-copy-out-t13
+shared-slice-copy-out-t13 c = search needs
+
+shared-slice-copy-out-t15 : tie.Need-shared-slice-copy-out-t15
+shared-slice-copy-out-t15 c = search needs
+
+shared-slice-copy-out-t11-2 : tie.Need-shared-slice-copy-out-t11-2
+shared-slice-copy-out-t11-2 c = search needs
+
+kept-requires : tie.Need-kept-requires
+kept-requires c κs = search needs
+
+mul-end : tie.Need-mul-end
+mul-end c = search needs
+
+sub-print-judged : tie.Need-sub-print-judged
+sub-print-judged c = search needs
+
+part-print-judged-start : tie.Need-part-print-judged-start
+part-print-judged-start c = search needs
+
+part-print-judged-end : tie.Need-part-print-judged-end
+part-print-judged-end c = search needs
+
+print-judged-requires : tie.Need-print-judged-requires
+print-judged-requires c κs = search needs
+
+same-length : tie.Need-same-length
+same-length c = search needs
+
+returns : tie.Need-returns
+returns c =
+    let f0 : SFits w64 (getD (c .before .before .before .before .before .before .before .before .before .before .before .before .args .numbers .now) 0 (pos 0)) = search needs in
+    let f1 : SFits w64 (getD (c .before .before .before .before .before .before .before .before .before .before .before .before .args .numbers .now) 1 (pos 0)) = search needs in
+    let f2 : SFits w64 (getD (c .before .before .before .before .before .before .before .before .before .before .before .before .args .numbers .now) 2 (pos 0)) = search needs in
+    let f3 : SFits w64 (getD (c .before .before .before .before .before .before .before .before .before .before .before .before .args .numbers .now) 3 (pos 0)) = search needs in
+    let e : 4 * c .before .before .before .before .before .kept .result - 4 ≡ 4 * min (c .before .before .before .before .before .before .before .before .before .before .before .before .args .lines) 66 - 4 = omega (arith, c .before .before .before .before .before .kept .ensures .1) in
+    rw (back f0, back f1, back f2, back f3, e) at (c .before .before .print-judged .ensures)
+
+pub put-page-spec : {M : Type 1} → statement M
+put-page-spec =
+    tie.close
+    (tie.spec
+    shared-slice-copy-out-t11
+    shared-slice-copy-out-t13
+    shared-slice-copy-out-t15
+    shared-slice-copy-out-t11-2
+    kept-requires
+    mul-end
+    sub-print-judged
+    part-print-judged-start
+    part-print-judged-end
+    print-judged-requires
+    same-length
+    returns)

@@ -1,0 +1,70 @@
+use native.Mathlib.Omega.{arith}
+use lib.ListN.{length-take}
+use borrow.Author.Needs.{needs}
+use Rattle.desk.proofs.sheets.read.Statement.{statement}
+use Rattle.desk.proofs.sheets.read.Tie as tie
+
+buffer-requires : tie.Need-buffer-requires
+buffer-requires c κs = search needs
+
+slice-aggregate-show : tie.Need-slice-aggregate-show
+slice-aggregate-show c = search needs
+
+show-requires : tie.Need-show-requires
+show-requires c κs = search needs
+
+array-share-prefix-name : tie.Need-array-share-prefix-name
+array-share-prefix-name c = search needs
+
+slice-aggregate-open : tie.Need-slice-aggregate-open
+slice-aggregate-open c = simp length-take (omega arith)
+
+open-requires : tie.Need-open-requires
+open-requires c κs = search needs
+
+returns : tie.Need-returns
+returns c = search needs
+
+large-buffer-requires : tie.Need-large-buffer-requires
+large-buffer-requires c κs = search needs
+
+array-share-prefix-name-2 : tie.Need-array-share-prefix-name-2
+array-share-prefix-name-2 c = search needs
+
+slice-aggregate-fill : tie.Need-slice-aggregate-fill
+slice-aggregate-fill c = simp length-take (omega arith)
+
+slice-aggregate-fill-2 : tie.Need-slice-aggregate-fill-2
+slice-aggregate-fill-2 c = search needs
+
+fill-requires : tie.Need-fill-requires
+fill-requires c κs = search needs
+
+close-requires : tie.Need-close-requires
+close-requires c κs = search needs
+
+same-length : tie.Need-same-length
+same-length c = search needs
+
+returns-2 : tie.Need-returns-2
+returns-2 c = search needs
+
+pub read-spec : {M : Type 1} → statement M
+read-spec =
+    tie.close
+    (tie.spec
+    buffer-requires
+    slice-aggregate-show
+    show-requires
+    array-share-prefix-name
+    slice-aggregate-open
+    open-requires
+    returns
+    large-buffer-requires
+    array-share-prefix-name-2
+    slice-aggregate-fill
+    slice-aggregate-fill-2
+    fill-requires
+    close-requires
+    same-length
+    returns-2)

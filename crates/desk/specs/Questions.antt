@@ -1,0 +1,27 @@
+-- What the numbers that were kept of a question are (docs/PROGRAM.md): its first line is the start, A, c, h, mK; each further one a step, c, h, calorific value, q.
+use Prim.Native.Nat.{ℕ, _*_, _-_, min}
+use mathlib.Core.Bool.{cond}
+use mathlib.Core.List.{List, [], _∷_}
+use lib.Dec.{ltb}
+use lib.IntN.{ℤ, pos}
+use lib.ListN.{take, drop, getD}
+use lib.Seq.{sets}
+use Rattle.gas.specs.declared.Charge.{Charge}
+use Rattle.sheet.specs.declared.SheetAnswer.{SheetAnswer}
+use Rattle.console.specs.Walks.{walkTold, printedWalk}
+
+-- line k, counted from 0, stands in the four places from 4 · k on; the list has places for 66 lines
+abbrev pub keptLine : ℕ → ℤ → ℤ → ℤ → ℤ → List ℤ → List ℤ
+keptLine k a b c d numbers = cond (ltb k 66) (sets numbers (4 * k) (a ∷ b ∷ c ∷ d ∷ [])) numbers
+
+-- the charge of the first line
+abbrev pub startIn : List ℤ → Charge
+startIn numbers = record { air = getD numbers 0 (pos 0); carbon = getD numbers 1 (pos 0); hydrogen = getD numbers 2 (pos 0) }
+
+-- the steps of the lines after it: of a question with more lines than the list has places for, one more than the longest walk has, so that it is refused with 13
+abbrev pub stepsIn : ℕ → List ℤ → List ℤ
+stepsIn lines numbers = take (4 * min lines 66 - 4) (drop 4 numbers)
+
+-- the printed walk of a question of so many lines
+abbrev pub questionPage : SheetAnswer → List ℕ → ℕ → List ℤ → List ℕ
+questionPage verdict s lines numbers = printedWalk (walkTold verdict s (startIn numbers) (getD numbers 3 (pos 0)) (stepsIn lines numbers))

@@ -1,0 +1,50 @@
+use borrow.Author.Needs.{needs}
+use mathlib.Core.Path.{_≡_, refl, sym, _∙_}
+use Prim.Native.Nat.{_-_, _≤_}
+use lib.ListN.{length, drop}
+use native.Mathlib.Omega.{arith}
+use Rattle.fields.specs.Fields.{holdsReturn}
+use Rattle.fields.specs.FieldsLaws.{return-here, return-later, return-none}
+use Rattle.fields.proofs.holds_return.Statement.{statement}
+use Rattle.fields.proofs.holds_return.Tie as tie
+
+abbrev Inv-loop : tie.InvT-loop
+Inv-loop line i₀ i = (i ≤ length line) × (holdsReturn line ≡ holdsReturn (drop i line))
+
+abbrev μ-loop : tie.MeasureT-loop
+μ-loop line i₀ i = length line - i
+
+loop-holds : tie.Need-loop-holds Inv-loop μ-loop
+loop-holds c = (omega arith, refl)
+
+shared-slice-read-if1 : tie.Need-shared-slice-read-if1 Inv-loop μ-loop
+shared-slice-read-if1 c = search needs
+
+returns : tie.Need-returns Inv-loop μ-loop
+returns c = sym (c .before .before .before .loop .inv .1 ∙ return-here (c .before .before .before .before .args .line .now) (c .before .before .before .loop .i) (omega arith) (c .if1 .taken))
+
+add-i : tie.Need-add-i Inv-loop μ-loop
+add-i c = search needs
+
+loop-less : tie.Need-loop-less Inv-loop μ-loop
+loop-less c = search needs
+
+loop-again : tie.Need-loop-again Inv-loop μ-loop
+loop-again c = (omega arith, c .before .before .before .loop .inv .1 ∙ return-later (c .before .before .before .before .args .line .now) (c .before .before .before .loop .i) (omega arith) (c .if1 .left))
+
+returns-2 : tie.Need-returns-2 Inv-loop μ-loop
+returns-2 c = sym (c .before .loop .inv .1 ∙ return-none (c .before .before .args .line .now) (c .before .loop .i) (omega arith))
+
+pub holds-return-spec : {M : Type 1} → statement M
+holds-return-spec =
+    tie.close
+    (tie.spec
+    Inv-loop
+    μ-loop
+    loop-holds
+    shared-slice-read-if1
+    returns
+    add-i
+    loop-less
+    loop-again
+    returns-2)
