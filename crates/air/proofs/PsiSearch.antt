@@ -9,7 +9,6 @@ use native.Mathlib.Omega.{arith}
 use lib.Dec.{le→leb, lt→ltb}
 use lib.IntN.{ℤ, pos, _+ℤ_}
 use lib.ListN.{length, drop, replicate}
-use lib.Seq.{sets}
 use lib.Signed.{_≤ℤ_, _<ℤ_}
 use Rattle.signed.specs.Zed.{up, apart, plain, zed}
 use Rattle.rows.specs.Rows.{rowsPsi}
@@ -20,7 +19,7 @@ use Rattle.air.specs.declared.PsiAnswer.the-variants.{At}
 use Rattle.air.specs.Readings.{airPsiAt}
 use Rattle.air.specs.ReadingsLaws.{between-whole, psi-straight, psi-slope}
 use Rattle.air.specs.Halving.{halving, eleven, Halved}
-use Rattle.air.specs.HalvingLaws.{Kept, at-most-eleven, looks-placed}
+use Rattle.air.specs.HalvingLaws.{Kept, places-are}
 use Rattle.air.specs.Inverse.{temperature, rest, looks, Found, found}
 use Rattle.air.specs.InverseLaws.{refusal-writes-nothing, no-looks, looks-are, rest-least, row-kept, top-temperature, top-rest, part-small, temperature-is, rest-is}
 use Rattle.air.specs.Refusals.{gives, Line, toldBy, First, Clear}
@@ -112,16 +111,12 @@ module _ (target : ℕ) where
           fails = omega (arith, leb-false (airPsiAt (1000 * (row + 1))) target n, psi-whole (row + 1) (omega arith));
         }
 
-    pub searched : (before cleared after : List ℕ) (row : ℕ) (r : PsiAnswer) → cleared ≡ replicate 11 0 ++ drop 11 before
-        → Halved (psiFits target) 200 2000 0 cleared row after → r ≡ psiFound target → PsiSearched target before r after
+    pub searched : {places before after : List ℕ} {row : ℕ} {r : PsiAnswer} → Halved (psiFits target) 200 2000 0 (replicate 11 0) row places
+        → after ≡ places ++ drop 11 before → r ≡ psiFound target → PsiSearched target before r after
     unfolding psiFits
-    searched before cleared after row r c h e = record {
+    searched {before} h l e = record {
       answer = e;
-      list =
-          h .list-is
-          ∙ ap (λ (l : List ℕ). sets l 0 (halving (psiFits target) 200 2000 .looks)) c
-          ∙ looks-placed (drop 11 before) (halving (psiFits target) 200 2000 .looks) (at-most-eleven (psiFits target))
-          ∙ ap (λ (l : List ℕ). eleven l ++ drop 11 before) (sym (looks-are psiValue (pos target) below-last));
+      list = l ∙ ap (λ (x : List ℕ). x ++ drop 11 before) (places-are h ∙ ap eleven (sym (looks-are psiValue (pos target) below-last)));
     }
 
 -- ---- the answer of the call

@@ -235,7 +235,7 @@ module _ {p : ℕ → Bool} {lo hi lo′ hi′ at : ℕ} {l : List ℕ} (t : Tur
 pub room-first : {p : ℕ → Bool} {lo hi at : ℕ} {l : List ℕ} → lo + 1 < hi → Room p lo hi at l → at < length l
 room-first {p} {lo} {hi} w r = by-bool (p (middle lo hi)) (λ e. room-here (to-upper w e) r) (λ e. room-here (to-lower w e) r)
 
--- ---- a list whose first eleven places were cleared, with looks written from its start
+-- ---- eleven places that were 0, with the looks of a search written from their start
 drop-replicate : (n m v : ℕ) → drop n (replicate m v) ≡ replicate (m - n) v
 drop-replicate zero m v = ap (λ (k : ℕ). replicate k v) {x = m} {y = m - 0} (omega arith)
 drop-replicate (suc n) zero v = ap (λ (k : ℕ). replicate k v) {x = 0} {y = 0 - suc n} (omega arith)
@@ -245,10 +245,13 @@ pub length-eleven : (xs : List ℕ) → length xs ≤ 11 → length (eleven xs) 
 unfolding eleven
 length-eleven xs h = length-append xs (replicate (11 - length xs) 0) ∙ omega (arith, length-replicate {A = ℕ} (11 - length xs) 0)
 
-pub looks-placed : (l vs : List ℕ) → length vs ≤ 11 → sets (replicate 11 0 ++ l) 0 vs ≡ eleven vs ++ l
+looks-placed : (vs : List ℕ) → length vs ≤ 11 → sets (replicate 11 0) 0 vs ≡ eleven vs
 unfolding eleven
-looks-placed l vs h =
-    sets-eq vs (replicate 11 0 ++ l) 0 (omega (arith, length-append (replicate 11 0) l))
-    ∙ ap (λ (n : ℕ). vs ++ drop n (replicate 11 0 ++ l)) {x = 0 + length vs} {y = length vs} (omega arith)
-    ∙ ap (λ (r : List ℕ). vs ++ r) (drop-append-le (length vs) (replicate 11 0) l (omega arith) ∙ ap (λ (r : List ℕ). r ++ l) (drop-replicate (length vs) 11 0))
-    ∙ sym (append-assoc vs (replicate (11 - length vs) 0) l)
+looks-placed vs h =
+    sets-eq vs (replicate 11 0) 0 (omega (arith, length-replicate {A = ℕ} 11 0))
+    ∙ ap (λ (n : ℕ). vs ++ drop n (replicate 11 0)) {x = 0 + length vs} {y = length vs} (omega arith)
+    ∙ ap (λ (r : List ℕ). vs ++ r) (drop-replicate (length vs) 11 0)
+
+-- the row that a search from 200 and 2,000 keeps, and its looks in those places
+pub places-are : {p : ℕ → Bool} {row : ℕ} {places : List ℕ} → Halved p 200 2000 0 (replicate 11 0) row places → places ≡ eleven (halving p 200 2000 .looks)
+places-are {p} h = h .list-is ∙ looks-placed (halving p 200 2000 .looks) (at-most-eleven p)

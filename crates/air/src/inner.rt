@@ -1,10 +1,10 @@
-// The inner doors of air: what the gas above needs of it. Their callers have tested the ranges.
+// The inner doors of air: what the gas above needs of it, and the readings that the calls share. Their callers have tested the ranges.
 use crate::Millikelvin;
 ghost use mathlib.Core.Path.{_≡_};
 ghost use mathlib.Core.List.{_++_};
 ghost use Prim.Native.Nat.{_≤_, _<_, _/_};
 ghost use lib.IntN.{pos};
-ghost use lib.ListN.{length, drop, replicate};
+ghost use lib.ListN.{length, drop};
 ghost use Rattle.signed.specs.Zed.{inZ};
 ghost use Rattle.rows.specs.Table.{column};
 ghost use Rattle.air.specs.Readings.{reading, between, NeverFalls};
@@ -17,7 +17,7 @@ pub fn covered(t: Millikelvin) -> bool
 }
 
 // A figure a with b the next kelvin's, read f mK above a.
-pub fn reading_of(a: u64, b: u64, f: u64) -> u64
+pub(crate) fn reading_of(a: u64, b: u64, f: u64) -> u64
     requires { ⌜ (a ≤ b) × (b < 4294967296) × (f < 1000) ⌝ }
     ensures { λ r. ⌜ r ≡ reading a b f ⌝ }
 {
@@ -25,7 +25,7 @@ pub fn reading_of(a: u64, b: u64, f: u64) -> u64
 }
 
 // A column that never falls, read at a temperature in mK; at 2,000,000 mK no row is read but the last.
-pub fn read(rows: &[u32; 1801], mk: u64) -> u64
+pub(crate) fn read(rows: &[u32; 1801], mk: u64) -> u64
     requires { ⌜ (200000 ≤ mk) × (mk ≤ 2000000) × NeverFalls (column (now rows)) ⌝ }
     ensures { λ r. ⌜ r ≡ between (column (now (rows .entry))) mk ⌝ }
 {
@@ -44,14 +44,14 @@ pub fn thousandths(over: u64, slope: u64) -> u64
     over / slope
 }
 
-// Sets the first eleven places of a list of looks to 0.
-pub fn clear(looks: &mut [u32])
-    requires { ⌜ 11 ≤ length (now looks) ⌝ }
-    ensures { λ _. ⌜ now (looks .exit) ≡ replicate 11 0 ++ drop 11 (now (looks .entry)) ⌝ }
+// Lays the looks of a search into the first eleven places of a lent list.
+pub fn lay(eleven: &[u32; 11], looks: &mut [u32])
+    requires { ⌜ (length (now eleven) ≡ 11) × (11 ≤ length (now looks)) ⌝ }
+    ensures { λ _. ⌜ now (looks .exit) ≡ now (eleven .entry) ++ drop 11 (now (looks .entry)) ⌝ }
 {
     let mut i = 0;
     while i < 11 {
-        looks[i] = 0;
+        looks[i] = eleven[i];
         i += 1;
     }
 }

@@ -13,8 +13,8 @@ ghost use Rattle.air.specs.Halving.{Room, Halved};
 ghost use Rattle.air.specs.Search.{psiFits, PsiRow, psiFound, PsiSearched};
 
 // The halving rule between lo and hi: the row that it keeps. The looks go into the list from `at` on.
-fn halve(lo: u64, hi: u64, target: u64, looks: &mut [u32], at: usize, psi: &[u32; 1801]) -> u64
-    requires { ⌜ (200 ≤ lo) × (lo < hi) × (hi ≤ 2000) × (now psi ≡ rowsPsi) × Room (psiFits target) lo hi at (now looks) ⌝ }
+fn halve(lo: u64, hi: u64, target: u64, looks: &mut [u32; 11], at: usize, psi: &[u32; 1801]) -> u64
+    requires { ⌜ (200 ≤ lo) × (lo < hi) × (hi ≤ 2000) × (now psi ≡ rowsPsi) × (length (now looks) ≡ 11) × Room (psiFits target) lo hi at (now looks) ⌝ }
     ensures { λ r. ⌜ Halved (psiFits target) lo hi at (now (looks .entry)) r (now (looks .exit)) ⌝ }
 {
     if hi <= lo + 1 {
@@ -45,11 +45,13 @@ pub(crate) fn psi_reached(target: u64, looks: &mut [u32], psi: &[u32; 1801]) -> 
     requires { ⌜ (now psi ≡ rowsPsi) × (11 ≤ length (now looks)) × (1000 * airPsi 200 ≤ target) × (target ≤ 1000 * airPsi 2000) ⌝ }
     ensures { λ r. ⌜ PsiSearched target (now (looks .entry)) r (now (looks .exit)) ⌝ }
 {
-    inner::clear(looks);
+    let mut eleven = [0u32; 11];
     if target == 1000 * rows::figure(psi, 2000) {
+        inner::lay(&eleven, looks);
         return PsiAnswer::At(Millikelvin(2000000), 0);
     }
-    let row = halve(200, 2000, target, looks, 0, psi);
+    let row = halve(200, 2000, target, &mut eleven, 0, psi);
+    inner::lay(&eleven, looks);
     divide(
         target,
         row,

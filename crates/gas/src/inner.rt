@@ -30,7 +30,7 @@ pub enum Admitted {
 }
 
 // Whether A, c or h is outside its limit.
-pub fn beyond(charge: Charge) -> bool
+pub(crate) fn beyond(charge: Charge) -> bool
     ensures { λ r. ⌜ r ≡ Burning·beyond document01 charge ⌝ }
 {
     if !signed::inside(charge.air, 1, burning::MOST_AIR) {
@@ -43,7 +43,7 @@ pub fn beyond(charge: Charge) -> bool
 }
 
 // A charge within its limits, unsigned.
-pub fn gas_of(charge: Charge) -> Gas
+pub(crate) fn gas_of(charge: Charge) -> Gas
     requires { ⌜ Burning·beyond document01 charge ≡ false ⌝ }
     ensures { λ r. ⌜ r ≡ gasOf charge ⌝ }
 {
@@ -155,5 +155,5 @@ pub fn find(
     if last.0 < target.0 {
         return TemperatureAnswer::Refused(Refusal::Plain(air::ABOVE));
     }
-    search::reached(target, first, last, looks, masses, sheet, air)
+    search::reached(target, last, looks, masses, sheet, air)
 }

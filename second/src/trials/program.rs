@@ -1,5 +1,5 @@
-//! The forms of `keys` as the gate runs them: the input that each program crate has stored, and what the program has to
-//! print to it (docs/PROGRAM.md).
+//! The forms of `keys` as the gate runs them: the input that each program crate, and each worked example of docs/, has stored,
+//! and what the program has to print to it (docs/PROGRAM.md, docs/QUESTIONS.md).
 
 use std::fs;
 use std::path::Path;
@@ -38,26 +38,55 @@ const PROGRAMS: [Program; 6] = [
     Program { name: "keys_sheet_refused", form: Form::Sheet("data/sheet.tsv"), sheet: None },
 ];
 
-/// The output that each program crate under the folder has to have: a path and its text.
+/// The worked examples under docs/examples/, over the built-in sheet: requests, or a question, and the file of what they get.
+const EXAMPLES: [(&str, Form, &str); 5] = [
+    ("parts", Form::Ask("requests.tsv"), "answers.tsv"),
+    ("heat", Form::Ask("requests.tsv"), "answers.tsv"),
+    ("windows", Form::Ask("requests.tsv"), "answers.tsv"),
+    ("ten-stages", Form::Walk("question.tsv"), "walk.tsv"),
+    ("ten-stages", Form::Ask("requests.tsv"), "answers.tsv"),
+];
+
+/// The output that each program crate and each example under the folder has to have: a path and its text.
 pub fn outputs(dir: &Path) -> Result<Vec<(String, String)>, String> {
-    PROGRAMS.iter().map(|program| output(dir, program)).collect()
+    let programs = PROGRAMS.iter().map(|program| output(dir, program));
+    programs.chain(EXAMPLES.iter().map(|example| example_output(dir, example))).collect()
+}
+
+fn example_output(
+    dir: &Path,
+    (name, form, told): &(&str, Form, &str),
+) -> Result<(String, String), String> {
+    let path = |file: &str| format!("docs/examples/{name}/{file}");
+    let stored = |file: &str| stored_at(dir, &path(file));
+    Ok((path(told), printed_for(form, stored, &Ok(sheet::built_in()))?))
+}
+
+fn stored_at(dir: &Path, path: &str) -> Result<String, String> {
+    fs::read_to_string(dir.join(path)).map_err(|error| format!("{path}: {error}"))
 }
 
 fn output(dir: &Path, program: &Program) -> Result<(String, String), String> {
     let path = |file: &str| format!("crates/{}/{file}", program.name);
-    let stored = |file: &str| {
-        fs::read_to_string(dir.join(path(file))).map_err(|error| format!("{}: {error}", path(file)))
-    };
+    let stored = |file: &str| stored_at(dir, &path(file));
     let sheet = match program.sheet {
         Some(file) => read(&stored(file)?),
         None => Ok(sheet::built_in()),
     };
-    let text = match program.form {
-        Form::Ask(file) => stored(file)?.lines().map(|line| answered(line, &sheet)).collect(),
-        Form::Walk(file) => page(&stored(file)?, &sheet),
+    Ok((path("stdout"), printed_for(&program.form, stored, &sheet)?))
+}
+
+/// What a form prints to the text that its file has.
+fn printed_for(
+    form: &Form,
+    stored: impl Fn(&str) -> Result<String, String>,
+    sheet: &Result<Vec<u32>, Refusal>,
+) -> Result<String, String> {
+    Ok(match form {
+        Form::Ask(file) => stored(file)?.lines().map(|line| answered(line, sheet)).collect(),
+        Form::Walk(file) => page(&stored(file)?, sheet),
         Form::Sheet(file) => verdict(&read(&stored(file)?)),
-    };
-    Ok((path("stdout"), text))
+    })
 }
 
 /// The list of a sheet file, or the refusal of its form or of its rows.

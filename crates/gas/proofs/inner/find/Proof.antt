@@ -60,9 +60,10 @@ returns-2 c = unreached-told _ _ _ (Refused (Plain 9)) (after (at-200 (c .before
 
 reached-requires : tie.Need-reached-requires
 reached-requires c κs =
-    let s = c .before .before .before .before .before .before .before .before .before .before .before .before .before .before .before .before in
-    let w = c .before .before .before .before .before .before .before .before .before .before .before .before in
-    (masses-ready (c .before .before .before .before .before .before .before .before .before .before .before .before .before), s .pre .3, w .at-kelvin .ensures, c .before .before .before .before .before .before .at-kelvin2 .ensures, omega (zed, lt-read (target-fits s) (first-fits w) (c .before .before .before .before .before .before .before .if1 .left)), omega (zed, lt-read (last-fits (c .before .before .before .before .before .before)) (target-fits s) (c .before .if2 .left)))
+    let s = c .before .before .before .before .before .before .before .before .before .before .before .before .before .before .before .before in (
+      (masses-ready (c .before .before .before .before .before .before .before .before .before .before .before .before .before), s .pre .3, c .before .before .before .before .before .before .at-kelvin2 .ensures),
+      (rw (← c .before .before .before .before .before .before .before .before .before .before .before .before .at-kelvin .ensures) (omega (zed, lt-read (target-fits s) (first-fits (c .before .before .before .before .before .before .before .before .before .before .before .before)) (c .before .before .before .before .before .before .before .if1 .left))), omega (zed, lt-read (last-fits (c .before .before .before .before .before .before)) (target-fits s) (c .before .if2 .left))),
+    )
 
 same-length : tie.Need-same-length
 same-length c = search needs

@@ -1,16 +1,19 @@
+-- `reached`: the heat at 2,000 K answers with no look; else the search keeps the row in which the division finds the temperature, and its looks are laid into the lent part.
 use borrow.Author.Needs.{needs}
-use mathlib.Core.Path.{_≡_, refl, _∙_}
+use mathlib.Core.Path.{_≡_, refl, ap, _∙_}
+use Prim.Native.Nat.{_<_, _≤_}
 use native.Mathlib.Omega.{arith}
-use lib.IntN.{pos}
-use lib.ListN.{getD}
+use lib.ListN.{length}
+use lib.Seq.{length-sets}
 use lib.Signed.{_≤ℤ_, _<ℤ_}
-use mir.Val.{toZ, ofZ, SFits}
+use mir.Val.{SFits}
 use mir.Syntax.{w64}
 use Rattle.signed.specs.Zed.{back, le-read, zed}
+use Rattle.air.specs.Halving.{halving}
 use Rattle.air.specs.HalvingLaws.{at-most-eleven}
 use Rattle.gas.specs.Search.{heatFits}
 use Rattle.gas.specs.Heat.{heatOf}
-use Rattle.gas.proofs.HeatSearch.{at-last, holds-target, row-searched}
+use Rattle.gas.proofs.HeatSearch.{at-last, row-least, row-most, holds-target, row-searched}
 use Rattle.gas.proofs.search.reached.Statement.{statement}
 use Rattle.gas.proofs.search.reached.Tie as tie
 
@@ -20,89 +23,80 @@ target-fits s = search needs
 last-fits : (s : tie.Start) → SFits w64 (s .args .last .0)
 last-fits s = search needs
 
--- the target against the heats at the ends
-last-is : (c : tie.Then1) → let s = c .before .before .before .before .before .before .before .before .before .before .before in s .args .target .0 ≡ heatOf (s .args .gas) (s .args .t6 .now) 2000000
-last-is c =
-    let s = c .before .before .before .before .before .before .before .before .before .before .before in
-    omega (zed, le-read (last-fits s) (target-fits s) (c .if1 .taken), s .pre .3, s .pre .5)
-
-below-last : (c : tie.Else1) → let s = c .before .before .before .before .before .before .before .before .before .before .before in s .args .target .0 <ℤ heatOf (s .args .gas) (s .args .t6 .now) 2000000
-below-last c =
-    let s = c .before .before .before .before .before .before .before .before .before .before .before in
-    omega (zed, le-read (last-fits s) (target-fits s) (c .if1 .left), s .pre .3)
-
-from-first : (s : tie.Start) → heatOf (s .args .gas) (s .args .t6 .now) 200000 ≤ℤ s .args .target .0
-from-first s = omega (zed, s .pre .2, s .pre .4)
-
 used-fits : (s : tie.Start) → SFits w64 (s .args .gas .used)
 used-fits s = search needs
 
-first-fits : (s : tie.Start) → SFits w64 (s .args .first .0)
-first-fits s = search needs
+-- the target against the heat at 2,000 K
+last-is : (c : tie.Then1) → let s = c .before .before .before .before .before .before .before in s .args .target .0 ≡ heatOf (s .args .gas) (s .args .t5 .now) 2000000
+last-is c = let s = c .before .before .before .before .before .before .before in omega (zed, le-read (last-fits s) (target-fits s) (c .if1 .taken), s .pre .0 .2, s .pre .1 .1)
 
-clear-requires : tie.Need-clear-requires
-clear-requires c κs = search needs
+below-last : (c : tie.Else1) → let s = c .before .before .before .before .before .before .before in s .args .target .0 <ℤ heatOf (s .args .gas) (s .args .t5 .now) 2000000
+below-last c = let s = c .before .before .before .before .before .before .before in omega (zed, le-read (last-fits s) (target-fits s) (c .if1 .left), s .pre .0 .2)
+
+-- the row that the halving rule keeps
+kept : (c : tie.After-halve) → let s = c .before .before .before .before .before .before .before .before .before .before .before in c .halve .result ≡ halving (heatFits (s .args .gas) (s .args .t5 .now) (s .args .target .0)) 200 2000 .row
+kept c = let s = c .before .before .before .before .before .before .before .before .before .before .before in (rw (back (used-fits s)) at (c .halve .ensures)) .row-is
+
+least : (c : tie.After-halve) → 200 ≤ c .halve .result
+least c = let s = c .before .before .before .before .before .before .before .before .before .before .before in row-least (s .pre .0 .0) (s .args .target .0) (s .pre .1 .0) (below-last (c .before .before .before .before)) (kept c)
+
+most : (c : tie.After-halve) → c .halve .result < 2000
+most c = let s = c .before .before .before .before .before .before .before .before .before .before .before in row-most (s .pre .0 .0) (s .args .target .0) (s .pre .1 .0) (below-last (c .before .before .before .before)) (kept c)
+
+lay-requires : tie.Need-lay-requires
+lay-requires c κs = search needs
 
 same-length : tie.Need-same-length
 same-length c = search needs
 
 returns : tie.Need-returns
-returns c =
-    let s = c .before .before .before .before .before .before .before .before .before .before .before in
-    at-last (s .pre .0) (s .args .target .0) _ _ (last-is c) (c .before .before .before .before .before .before .before .clear .ensures)
+returns c = let s = c .before .before .before .before .before .before .before .before .before .before .before .before in at-last (s .pre .0 .0) (s .args .target .0) _ _ (last-is (c .before .before .before .before .before)) (c .before .before .lay .ensures)
 
 halve-requires : tie.Need-halve-requires
-halve-requires c κs = let s = c .before .before .before .before .before .before .before .before .before .before .before .before .before .before .before .before .before .before in rw (back (used-fits s)) (
-  refl,
-  refl,
-  s .pre .0,
-  record { least = omega arith; apart = omega arith; most = omega arith; under-is = back (first-fits s) ∙ s .pre .2; over-is = back (last-fits s) ∙ s .pre .3 },
-  record { room = omega (arith, at-most-eleven (heatFits (s .args .gas) (s .args .t6 .now) (s .args .target .0)), c .before .before .before .before .before .before .before .before .before .before .before .before .before .before .clear .kept .0) },
+halve-requires c κs = let s = c .before .before .before .before .before .before .before .before .before .before in rw (back (used-fits s)) (
+  (omega arith, omega arith, omega arith, s .pre .0 .0),
+  (refl, record { room = omega (arith, at-most-eleven (heatFits (s .args .gas) (s .args .t5 .now) (s .args .target .0))) }),
 )
 
-add-t25 : tie.Need-add-t25
-add-t25 c = search needs
+lay-requires-2 : tie.Need-lay-requires-2
+lay-requires-2 c κs = (ap length (c .before .before .halve .ensures .list-is) ∙ simp length-sets, search needs)
 
-array-copy-out-t28 : tie.Need-array-copy-out-t28
-array-copy-out-t28 c = search needs
+at-kelvin-requires : tie.Need-at-kelvin-requires
+at-kelvin-requires c κs = let s = c .before .before .before .before .before .before .before .before .before .before .before .before .before .before .before .before in (s .pre .0 .0, least (c .before .before .before .before .before), omega (arith, most (c .before .before .before .before .before)))
 
-array-copy-out-t32 : tie.Need-array-copy-out-t32
-array-copy-out-t32 c = search needs
+add-at-kelvin : tie.Need-add-at-kelvin
+add-at-kelvin c = omega (arith, most (c .before .before .before .before .before .before))
 
--- the two heats as they are read from the list
-under-read : (c : tie.After-t32) → toZ w64 (ofZ w64 (getD (c .before .before .before .before .halve .last .1 .1 .1 .0) 0 (pos 0))) ≡ getD (c .before .before .before .before .halve .last .1 .1 .1 .0) 0 (pos 0)
-under-read c = search needs
-
-over-read : (c : tie.After-t32) → toZ w64 (ofZ w64 (getD (c .before .before .before .before .halve .last .1 .1 .1 .0) 1 (pos 0))) ≡ getD (c .before .before .before .before .halve .last .1 .1 .1 .0) 1 (pos 0)
-over-read c = search needs
+at-kelvin-requires-2 : tie.Need-at-kelvin-requires-2
+at-kelvin-requires-2 c κs = let s = c .before .before .before .before .before .before .before .before .before .before .before .before .before .before .before .before .before in (s .pre .0 .0, omega (arith, least (c .before .before .before .before .before .before)), omega (arith, most (c .before .before .before .before .before .before)))
 
 divide-requires : tie.Need-divide-requires
 divide-requires c κs =
-    let s = c .before .before .before .before .before .before .before .before .before .before .before .before .before .before .before .before .before .before .before .before .before .before .before in
-    let n = rw (back (used-fits s)) at (c .before .before .before .before .halve .ensures) in
-    rw (under-read c, over-read c) (holds-target (s .pre .0) (s .args .target .0) (from-first s) (below-last (c .before .before .before .before .before .before .before .before .before .before .before .before)) _ (n .known) (n .next) (n .halved .row-is))
+    let s = c .before .before .before .before .before .before .before .before .before .before .before .before .before .before .before .before .before .before in
+    holds-target (s .pre .0 .0) (s .args .target .0) (s .pre .1 .0) (below-last (c .before .before .before .before .before .before .before .before .before .before .before)) (kept (c .before .before .before .before .before .before .before)) (c .before .at-kelvin .ensures) (c .at-kelvin2 .ensures)
 
 same-length-2 : tie.Need-same-length-2
 same-length-2 c = search needs
 
 returns-2 : tie.Need-returns-2
 returns-2 c =
-    let s = c .before .before .before .before .before .before .before .before .before .before .before .before .before .before .before .before .before .before .before .before .before .before .before .before in
-    let n = rw (back (used-fits s)) at (c .before .before .before .before .before .halve .ensures) in
-    rw (c .divide .ensures, under-read (c .before), over-read (c .before))
-    (row-searched (s .pre .0) (s .args .target .0) (from-first s) (below-last (c .before .before .before .before .before .before .before .before .before .before .before .before .before)) _ (n .known) (n .next) (n .halved .row-is) _ _ _ (c .before .before .before .before .before .before .before .before .before .before .before .before .before .before .before .before .before .before .before .before .clear .ensures) (n .halved))
+    let s = c .before .before .before .before .before .before .before .before .before .before .before .before .before .before .before .before .before .before .before in
+    let h = rw (back (used-fits s)) at (c .before .before .before .before .before .before .before .before .halve .ensures) in
+    rw (c .divide .ensures)
+    (row-searched (s .pre .0 .0) (s .args .target .0) (s .pre .1 .0) (below-last (c .before .before .before .before .before .before .before .before .before .before .before .before)) (kept (c .before .before .before .before .before .before .before .before)) (c .before .before .at-kelvin .ensures) (c .before .at-kelvin2 .ensures) h (c .before .before .before .before .before .lay2 .ensures))
 
 pub reached-spec : {M : Type 1} → statement M
 reached-spec =
     tie.close
     (tie.spec
-    clear-requires
+    lay-requires
     same-length
     returns
     halve-requires
-    add-t25
-    array-copy-out-t28
-    array-copy-out-t32
+    lay-requires-2
+    at-kelvin-requires
+    add-at-kelvin
+    at-kelvin-requires-2
     divide-requires
     same-length-2
     returns-2)
