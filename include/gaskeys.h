@@ -7,7 +7,8 @@
  *
  * UNITS
  *   temperature        thousandths of a kelvin (mK), 200,000 to 2,000,000
- *   gas heat, rest     mg times 0.00001 C.H.U./lb
+ *   gas heat, rest     mg times 0.00001 C.H.U./lb, and so a content
+ *   specific content   0.00001 C.H.U./lb
  *   charge             air in parts of 100 g, 1 to 100,000; carbon in moles, hydrogen in moles of atoms, 0 to 50,000 each;
  *                      lean: 32000 carbon + 8000 hydrogen is at most 23186 air
  *   sheet              5,403 numbers, O2, CO2 and H2O of 200 K first, then of 201 K and so on to 2,000 K, in hundredths of C.H.U./lb
@@ -15,25 +16,20 @@
  *   psi                0.0000001
  *   looks              whole kelvins that the search looked at, in their order; no look is 0, so the unused places are those with 0
  *
- * REFUSALS: `refusal` is 0 or one of these numbers. A call gives the first that holds, in the order that stands beside it.
- *   1   the sheet list is not 5,403 long
- *   2   the sheet text breaks its form; `row` is its first bad row, 0 to 1,800, or 1,801 for bytes past the end
- *   3   the sheet list has a value over 200,000 or breaks the step rule; `row` is the first bad row
- *   4   air, carbon or hydrogen outside its limit, or atoms added negative
- *   5   not lean
- *   6   temperature outside its range
- *   7   calorific value or plain heat outside its range
- *   8   target below the value at 200 K
- *   9   target above the value at 2,000 K
- *   10  a lent list is too short
- *   11  the typed answer is blank, infinite or not a number
- *   12  window or key outside its range
- *   13  the list of steps is no multiple of four long, or over 256
- * `row` is 0 where there is none, and every field that a case does not have is 0.
+ * REFUSALS: `refusal` is 0 or one of the numbers of `enum gaskeys_refusal`. A call gives the first that holds, in the order that stands beside it.
+ * `row` is the first bad row of refusals 2 and 3, and 0 where there is none; row 0 is 200 K, so only the number tells the two apart. Every field that
+ * a case does not have is 0.
  *
- * LISTS are lent as a pointer and a length in elements. A pointer is not null and is aligned, also where its length is 0, and a list that is written overlaps no
- * other list of the same call. A refusal changes no lent place, but for a walk that a step stops, as said there. Nothing past the given length is read or written,
- * nothing is kept after a call, and there is no state: any number of threads may call at the same time.
+ * LISTS are lent as a pointer and a length in elements. A pointer is aligned, and a list that is written overlaps no other list of the same call. A pointer is not NULL
+ * unless its length is 0; then it may be, as an empty std::vector of C++ gives it: nothing is read or written through it. A refusal changes no lent place, but for a
+ * walk that a step stops, as said there. Nothing past the given length is read or written, nothing is kept after a call, and there is no state: any number of threads
+ * may call at the same time.
+ *
+ * STACK: a thread with 48 KB of stack can make every call, and one with 24 KB every call but gaskeys_read_sheet. Measured were 30 KB for gaskeys_read_sheet and at most
+ * 14 KB for any other, the thread's own 4 KB among them; bindings/c/limits.c measures it again and passes NULL to every call.
+ *
+ * VERSION: GASKEYS_VERSION goes up whenever a list or a struct changes its meaning. The archive has the symbol gaskeys_version_1, named after the number, and every file
+ * that includes this header refers to it: what was compiled with the header of another version does not link.
  */
 #ifndef GASKEYS_H
 #define GASKEYS_H
@@ -44,6 +40,41 @@
 #ifdef __cplusplus
 extern "C" {
 #endif
+
+/* ---- the version ---- */
+
+#define GASKEYS_VERSION 1
+
+/* Gives 1. */
+uint32_t gaskeys_version_1(void);
+
+/* The reference to it, kept also where nothing uses it. */
+#define GASKEYS_KEPT __attribute__((used))
+#ifdef __has_attribute
+#if __has_attribute(retain)
+#undef GASKEYS_KEPT
+#define GASKEYS_KEPT __attribute__((used, retain))
+#endif
+#endif
+static uint32_t (*const gaskeys_linked_version)(void) GASKEYS_KEPT = gaskeys_version_1;
+
+/* ---- refusals ---- */
+
+enum gaskeys_refusal {
+    GASKEYS_SHEET_LENGTH = 1, /* the sheet list is not 5,403 long */
+    GASKEYS_SHEET_TEXT = 2,   /* the sheet text breaks its form; `row` is its first bad row, 0 to 1,800, or 1,801 for bytes past the end */
+    GASKEYS_SHEET_ROW = 3,    /* the sheet list has a value over 200,000 or breaks the step rule; `row` is the first bad row */
+    GASKEYS_CHARGE = 4,       /* air, carbon or hydrogen outside its limit, or atoms added negative */
+    GASKEYS_NOT_LEAN = 5,     /* not lean */
+    GASKEYS_TEMPERATURE = 6,  /* temperature outside its range */
+    GASKEYS_STEP_HEAT = 7,    /* calorific value or plain heat outside its range */
+    GASKEYS_BELOW = 8,        /* target below the value at 200 K */
+    GASKEYS_ABOVE = 9,        /* target above the value at 2,000 K */
+    GASKEYS_SHORT_LIST = 10,  /* a lent list is too short */
+    GASKEYS_NO_NUMBER = 11,   /* the typed answer is blank, infinite or not a number */
+    GASKEYS_WINDOW = 12,      /* window or key outside its range */
+    GASKEYS_STEPS_LENGTH = 13 /* the list of steps is no multiple of four long, or over 256 */
+};
 
 /* ---- the gas sheet ---- */
 
@@ -60,6 +91,64 @@ gaskeys_sheet_told gaskeys_read_sheet(const uint8_t *text, size_t text_length, u
 /* Judges a sheet list, as every call below that takes a sheet does first.
  * Refusals: 1, 3. */
 gaskeys_sheet_told gaskeys_judge_sheet(const uint32_t *list, size_t list_length);
+
+/* Puts the sheet that comes with the product into `list`: it is accepted by every call that takes a sheet.
+ * Refusals: 1. Leaves: all 5,403 places written, or with a refusal none. */
+gaskeys_sheet_told gaskeys_built_in_sheet(uint32_t *list, size_t list_length);
+
+/* ---- dry air ---- */
+
+typedef struct {
+    uint32_t refusal;
+    uint32_t row; /* always 0 */
+    uint64_t reading;
+} gaskeys_reading_told;
+
+/* The heat of air above 0 K at a temperature, in 0.00001 C.H.U./lb.
+ * Refusals: 6. */
+gaskeys_reading_told gaskeys_air_heat(int64_t millikelvin);
+
+/* psi of air at a temperature, in 0.0000001.
+ * Refusals: 6. */
+gaskeys_reading_told gaskeys_air_psi(int64_t millikelvin);
+
+/* Cp of air as printed, in ten-thousandths, at a whole number of kelvins, 200 to 2,000.
+ * Refusals: 6. */
+gaskeys_reading_told gaskeys_air_cp(int64_t kelvin);
+
+/* ---- the gas ---- */
+
+typedef struct {
+    uint32_t refusal;
+    uint32_t row; /* always 0 */
+    uint64_t co2; /* mg all five */
+    uint64_t h2o;
+    uint64_t o2;
+    uint64_t n2;
+    uint64_t ar;
+} gaskeys_burn_told;
+
+/* What a charge burns to.
+ * Refusals: 4, 5. */
+gaskeys_burn_told gaskeys_burn(int64_t air, int64_t carbon, int64_t hydrogen);
+
+typedef struct {
+    uint32_t refusal;
+    uint32_t row;
+    int64_t heat;
+} gaskeys_heat_told;
+
+/* The gas heat of a charge at a temperature, above 0 K: what gaskeys_temperature takes as its target.
+ * Refusals: 1, 3, 4, 5, 6. */
+gaskeys_heat_told gaskeys_gas_heat(int64_t air, int64_t carbon, int64_t hydrogen, int64_t millikelvin, const uint32_t *sheet, size_t sheet_length);
+
+/* Its content: the gas heat less the gas heat at 15 degrees C (288,160 mK). It is negative below 15 degrees C.
+ * Refusals: 1, 3, 4, 5, 6. */
+gaskeys_heat_told gaskeys_content(int64_t air, int64_t carbon, int64_t hydrogen, int64_t millikelvin, const uint32_t *sheet, size_t sheet_length);
+
+/* Its specific content: the content divided by the total mass, the fraction dropped toward zero (-23.8 is -23).
+ * Refusals: 1, 3, 4, 5, 6. */
+gaskeys_heat_told gaskeys_specific_content(int64_t air, int64_t carbon, int64_t hydrogen, int64_t millikelvin, const uint32_t *sheet, size_t sheet_length);
 
 /* ---- temperatures ---- */
 
@@ -100,7 +189,10 @@ typedef struct {
 } gaskeys_walk_told;
 
 /* Walks a charge from a temperature over up to 64 steps, four numbers each: carbon added, hydrogen added, calorific value in hundredths of C.H.U./lb (0 to 5,000,000)
- * and plain heat (-10^18 to 10^18). For n steps the temperatures and the rests have n places or more, the looks 11 n.
+ * and plain heat q (-10^18 to 10^18). For n steps the temperatures and the rests have n places or more, the looks 11 n.
+ * A step adds the mass of its fuel in mg (12011 carbon + 1008 hydrogen) times 1000 times the calorific value, plus q, to the content above 15 degrees C. The fuel enters
+ * at 15 degrees C and so brings no content of its own. What is kept of the charge before is its content at its rounded temperature, the one in the list. The new
+ * temperature is the greatest at which the new charge has no more content than the sum; what is left over is the rest, which is reported and not carried on to the next step.
  * Refusals of the start: 1, 3, 13, 10, 4, 5, 6; of a step: 4, 7, 5, 8 or 9.
  * Leaves: step i, from 0 on, that was done has its temperature and its rest in place i and its looks in the eleven places from 11 i on, 0 where unused. The places of
  * a step that was refused and of later ones, and all places past the steps, are as they were. */
@@ -114,7 +206,7 @@ typedef struct {
     uint32_t refusal;
     uint32_t row;
     double millikelvin; /* whole numbers all three, below 2^53 in size: the difference of two like figures is exact */
-    double content;     /* specific content above 15 degrees C, in 0.00001 C.H.U./lb */
+    double content;     /* specific content above 15 degrees C, in 0.00001 C.H.U./lb, the fraction dropped toward zero */
     double mass;        /* total mass in mg */
 } gaskeys_station_told;
 

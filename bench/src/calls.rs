@@ -3,7 +3,7 @@
 use gaskeys::raw::{self, MarkTold, PsiTold, SheetTold, StationTold, TemperatureTold, WalkTold};
 use second::gas::Charge;
 
-/// The calls of include/gaskeys.h. Each field has the signature of the call of its name.
+/// The calls of include/gaskeys.h that are measured. Each field has the signature of the call of its name.
 pub struct Calls {
     pub read_sheet: unsafe extern "C" fn(*const u8, usize, *mut u32, usize) -> SheetTold,
     pub judge_sheet: unsafe extern "C" fn(*const u32, usize) -> SheetTold,

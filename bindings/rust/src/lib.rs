@@ -7,8 +7,9 @@
 //! said with the call. There is no state; calls may be made from any number of threads.
 //!
 //! The archive is looked for in the folder GASKEYS_LIB, else in the project's target/staticlib,
-//! where `rt staticlib capi` puts it.
+//! where `rt staticlib capi` puts it. One of another version than [`raw::VERSION`] does not link.
 
+mod air;
 mod gas;
 mod marking;
 pub mod raw;
@@ -16,8 +17,12 @@ mod refusal;
 mod sheet;
 mod walk;
 
-pub use gas::{psi_inverse, temperature, Charge, Heat, Millikelvin, LOOKS};
+pub use air::{air_cp, air_heat, air_psi};
+pub use gas::{
+    burn, content, gas_heat, psi_inverse, specific_content, temperature, Charge, Heat, Millikelvin,
+    Products, LOOKS,
+};
 pub use marking::{mark, station, Station, Typed};
-pub use refusal::Refusal;
-pub use sheet::{judge_sheet, read_sheet, SHEET_PLACES};
+pub use refusal::{Reason, Refusal};
+pub use sheet::{built_in_sheet, fill_built_in_sheet, judge_sheet, read_sheet, SHEET_PLACES};
 pub use walk::{walk, Lent, State, Step, Walked};

@@ -9,6 +9,31 @@ pub struct SheetTold {
 }
 
 #[repr(C)]
+pub struct ReadingTold {
+    pub refusal: u32,
+    pub row: u32,
+    pub reading: u64,
+}
+
+#[repr(C)]
+pub struct BurnTold {
+    pub refusal: u32,
+    pub row: u32,
+    pub co2: u64,
+    pub h2o: u64,
+    pub o2: u64,
+    pub n2: u64,
+    pub ar: u64,
+}
+
+#[repr(C)]
+pub struct HeatTold {
+    pub refusal: u32,
+    pub row: u32,
+    pub heat: i64,
+}
+
+#[repr(C)]
 pub struct TemperatureTold {
     pub refusal: u32,
     pub row: u32,
@@ -52,7 +77,17 @@ pub struct MarkTold {
     pub counts: u32,
 }
 
+/// The header's GASKEYS_VERSION: it goes up whenever a list or a struct changes its meaning.
+pub const VERSION: u32 = 1;
+
+/// Kept in whatever links the wrapper, as the header has it: an archive of another version does not
+/// have the symbol.
+#[used]
+static LINKED_VERSION: unsafe extern "C" fn() -> u32 = gaskeys_version_1;
+
 extern "C" {
+    pub fn gaskeys_version_1() -> u32;
+
     pub fn gaskeys_read_sheet(
         text: *const u8,
         text_length: usize,
@@ -61,6 +96,43 @@ extern "C" {
     ) -> SheetTold;
 
     pub fn gaskeys_judge_sheet(list: *const u32, list_length: usize) -> SheetTold;
+
+    pub fn gaskeys_built_in_sheet(list: *mut u32, list_length: usize) -> SheetTold;
+
+    pub fn gaskeys_air_heat(millikelvin: i64) -> ReadingTold;
+
+    pub fn gaskeys_air_psi(millikelvin: i64) -> ReadingTold;
+
+    pub fn gaskeys_air_cp(kelvin: i64) -> ReadingTold;
+
+    pub fn gaskeys_burn(air: i64, carbon: i64, hydrogen: i64) -> BurnTold;
+
+    pub fn gaskeys_gas_heat(
+        air: i64,
+        carbon: i64,
+        hydrogen: i64,
+        millikelvin: i64,
+        sheet: *const u32,
+        sheet_length: usize,
+    ) -> HeatTold;
+
+    pub fn gaskeys_content(
+        air: i64,
+        carbon: i64,
+        hydrogen: i64,
+        millikelvin: i64,
+        sheet: *const u32,
+        sheet_length: usize,
+    ) -> HeatTold;
+
+    pub fn gaskeys_specific_content(
+        air: i64,
+        carbon: i64,
+        hydrogen: i64,
+        millikelvin: i64,
+        sheet: *const u32,
+        sheet_length: usize,
+    ) -> HeatTold;
 
     pub fn gaskeys_temperature(
         air: i64,

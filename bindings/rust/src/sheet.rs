@@ -42,3 +42,24 @@ pub fn judge_sheet(list: &[u32]) -> Result<(), Refusal> {
     let told = unsafe { raw::gaskeys_judge_sheet(list.as_ptr(), list.len()) };
     Refusal::told(told.refusal, told.row)
 }
+
+/// The sheet that comes with the product, which every call that takes a sheet accepts.
+///
+/// ```
+/// let sheet = gaskeys::built_in_sheet();
+/// gaskeys::judge_sheet(&sheet)?;
+/// assert_eq!(sheet[..3], [4326, 3236, 8776]);
+/// # Ok::<(), gaskeys::Refusal>(())
+/// ```
+pub fn built_in_sheet() -> Vec<u32> {
+    let mut list = vec![0; SHEET_PLACES];
+    fill_built_in_sheet(&mut list).expect("the list has a sheet's length");
+    list
+}
+
+/// Puts the built-in sheet into a lent list. A refusal (1: another length) leaves it as it was.
+pub fn fill_built_in_sheet(list: &mut [u32]) -> Result<(), Refusal> {
+    // SAFETY: a Rust slice with its length.
+    let told = unsafe { raw::gaskeys_built_in_sheet(list.as_mut_ptr(), list.len()) };
+    Refusal::told(told.refusal, told.row)
+}

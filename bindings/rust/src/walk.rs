@@ -3,6 +3,11 @@ use crate::{Charge, Millikelvin, Refusal};
 
 /// A step of a walk: carbon and hydrogen added, the fuel's calorific value in hundredths of
 /// C.H.U./lb (0 to 5,000,000), and plain heat in mg times 0.00001 C.H.U./lb (−10^18 to 10^18).
+///
+/// It adds the mass of its fuel in mg times 1000 times the calorific value, plus the plain heat, to
+/// the content above 15 °C that the charge had at its rounded temperature. The fuel enters at 15 °C
+/// and so brings no content of its own. The new temperature is the greatest at which the new charge
+/// has no more content than the sum; the rest is reported and not carried on to the next step.
 #[derive(Clone, Copy, Debug, PartialEq, Eq, Hash)]
 pub struct Step {
     pub carbon: i64,

@@ -10,4 +10,5 @@ pub mod HalvingLaws
 pub mod ReadingsLaws
 pub mod InverseLaws
 pub mod OneOutcome
+pub mod Demand1Laws
 pub mod Examples

@@ -15,10 +15,13 @@ refused-stays : (A : Type 0) {B : Type 0} (r : Refusal) (f : A → Told B) → a
 refused-stays A (Plain n) f = refl
 refused-stays A (AtRow n r) f = refl
 
--- an order in two parts
+-- an order in two parts, the second over the values of the first
+pub one-order : {A B : Type 0} (ls : List Line) (a : A) (f : A → Told B) (ms : List Line) (b : B) → f a ≡ first ms b → first (ls ++ ms) b ≡ andThen (first ls a) f
+one-order [] a f ms b e = sym e
+one-order {A} (l ∷ ls) a f ms b e = by-bool (condition l) (λ h. rw h (line-stays A l f)) (λ h. rw h (one-order ls a f ms b e))
+
 pub in-parts : {A B : Type 0} (ls ms : List Line) (a : A) (b : B) → first (ls ++ ms) b ≡ andThen (first ls a) (λ x. first ms b)
-in-parts [] ms a b = refl
-in-parts {A} (l ∷ ls) ms a b = by-bool (condition l) (λ h. rw h (line-stays A l (λ x. first ms b))) (λ h. rw h (in-parts ls ms a b))
+in-parts ls ms a b = one-order ls a (λ x. first ms b) ms b refl
 
 module _ {A B : Type 0} (ls ms : List Line) (a : A) (b : B) where
   -- a refusal of the first part is the answer

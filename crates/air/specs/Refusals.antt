@@ -2,6 +2,7 @@
 -- order, each a number with the condition that it is given for; the call tells the first line whose condition holds, else its values.
 use mathlib.Core.Bool.{Bool, true, false, cond}
 use mathlib.Core.List.{List, [], _∷_}
+use mathlib.Core.Logic.{_↔_}
 use mathlib.Core.Path.{_≡_}
 use Prim.Native.Nat.{ℕ}
 use Rattle.air.specs.declared.Refusal.{Refusal}
@@ -25,10 +26,14 @@ pub data Line : Type 0 where
   _when_ : ℕ → Bool → Line
   _on-row_when_ : ℕ → ℕ → Bool → Line
 
--- the refusal of a line, and its condition
+-- the refusal of a line, its number, and its condition
 abbrev pub toldBy : {A : Type 0} → Line → Told A
 toldBy (n when c) = refuses n
 toldBy (n on-row r when c) = refusesRow n r
+
+abbrev pub lineNumber : Line → ℕ
+lineNumber (n when c) = n
+lineNumber (n on-row r when c) = n
 
 abbrev pub condition : Line → Bool
 condition (n when c) = c
@@ -54,3 +59,9 @@ pub data First : List Line → Line → Type 0 where
 pub data Clear : List Line → Type 0 where
   none : Clear []
   clear : {l : Line} {ls : List Line} → condition l ≡ false → Clear ls → Clear (l ∷ ls)
+
+-- demand 1, of what a call tells by an order of refusals and the values else: a refusal exactly when it is that of the first line whose condition holds, and the
+-- values exactly when no condition holds
+pub record Demand1 {A : Type 0} (order : List Line) (values : A) (told : Told A) : Type 0 where
+  pub refusal : (r : Refusal) → (told ≡ refused r) ↔ ((l : Line) × First order l × (toldBy {A = A} l ≡ refused r))
+  pub answer : (a : A) → (told ≡ gives a) ↔ (Clear order × (values ≡ a))

@@ -3,6 +3,8 @@ use mathlib.Core.Path.{_≡_, refl, ap, _∙_}
 use mathlib.Core.List.{List}
 use Prim.Native.Nat.{ℕ}
 use lib.IntN.{ℤ}
+use lib.ListN.{length}
+use borrow.Author.Tests.{eq-eqb, ne-eqb}
 use Rattle.air.specs.declared.Refusal.the-variants.{Plain, AtRow}
 use Rattle.air.specs.declared.PsiAnswer.{PsiAnswer}
 use Rattle.air.specs.Refusals.{Told}
@@ -10,6 +12,7 @@ use Rattle.air.specs.Answers.{paperPsi, PsiInverse}
 use Rattle.sheet.specs.declared.SheetAnswer.{SheetAnswer}
 use Rattle.sheet.specs.declared.SheetAnswer.the-variants.{Good, Refused}
 use Rattle.sheet.specs.Answers.{paper, numbersOf, listAfter, SheetRead}
+use Rattle.built_in.specs.BuiltIn.{builtIn}
 use Rattle.gas.specs.declared.Charge.{Charge}
 use Rattle.gas.specs.declared.TemperatureAnswer.{TemperatureAnswer}
 use Rattle.gas.specs.Burning.{Weights}
@@ -21,7 +24,7 @@ use Rattle.capi.specs.declared.TemperatureTold.{TemperatureTold}
 use Rattle.capi.specs.declared.PsiTold.{PsiTold}
 use Rattle.capi.specs.declared.WalkTold.{WalkTold}
 use Rattle.capi.specs.Flat.{flatSheet, flatTemperature, flatPsi, flatWalk}
-use Rattle.capi.specs.Lent.{listTold, SheetIs, TemperatureIs, PsiIs, WalkIs}
+use Rattle.capi.specs.Lent.{listTold, SheetIs, BuiltInIs, TemperatureIs, PsiIs, WalkIs}
 
 -- the list by the answer is the list by what it tells
 list-as-told : (a : SheetAnswer) (numbers before : List ℕ) → listAfter a numbers before ≡ listTold (paper a) numbers before
@@ -36,6 +39,13 @@ sheet-told {before = before} {a = a} p q =
       told = q ∙ ap flatSheet (p .told);
       list = p .list ∙ (list-as-told a (numbersOf (p .form)) before ∙ ap (λ t. listTold t (numbersOf (p .form)) before) (p .told));
     }
+
+-- the built-in sheet, for a list of its length and for any other
+pub built-in-refused : (l : List ℕ) → (length l ≡ 5403 → ⊥) → BuiltInIs l (record { refusal = 1; row = 0 }) l
+built-in-refused l n = record { told = rw (ne-eqb (length l) 5403 n) refl; list = rw (ne-eqb (length l) 5403 n) refl }
+
+pub built-in-told : (l : List ℕ) {later : List ℕ} → length l ≡ 5403 → later ≡ builtIn → BuiltInIs l (record { refusal = 0; row = 0 }) later
+built-in-told l n e = record { told = rw (eq-eqb (length l) 5403 n) refl; list = rw (eq-eqb (length l) 5403 n) e }
 
 pub temperature-told : {w : Weights} {ch : Charge} {target : ℤ} {s before after : List ℕ} {a : TemperatureAnswer} {r : TemperatureTold}
     → Temperature w ch target s before a after → r ≡ flatTemperature (paperTemperature a) → TemperatureIs w ch target s before r after

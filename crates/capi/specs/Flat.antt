@@ -11,11 +11,15 @@ use Rattle.air.specs.declared.Refusal.the-variants.{Plain, AtRow}
 use Rattle.air.specs.Refusals.{Told, gives, refuses, refusesRow}
 use Rattle.air.specs.Inverse.{Found}
 use Rattle.gas.specs.declared.Charge.{Charge}
+use Rattle.gas.specs.declared.Products.{Products}
 use Rattle.walk.specs.Walk.{Course, done, stopped}
 use Rattle.marking.specs.declared.Typed.{Typed}
 use Rattle.marking.specs.declared.Typed.the-variants.{Kelvins, Content, Blank}
 use Rattle.marking.specs.declared.StationFigure.{StationFigure}
 use Rattle.capi.specs.declared.SheetTold.{SheetTold}
+use Rattle.capi.specs.declared.ReadingTold.{ReadingTold}
+use Rattle.capi.specs.declared.BurnTold.{BurnTold}
+use Rattle.capi.specs.declared.HeatTold.{HeatTold}
 use Rattle.capi.specs.declared.TemperatureTold.{TemperatureTold}
 use Rattle.capi.specs.declared.PsiTold.{PsiTold}
 use Rattle.capi.specs.declared.WalkTold.{WalkTold}
@@ -51,6 +55,23 @@ rowIn (AtRow n r) = r
 
 abbrev pub flatSheet : Told (Unit {0}) → SheetTold
 flatSheet t = record { refusal = number t; row = row t }
+
+-- a number read from the air table
+abbrev pub flatReading : Told ℕ → ReadingTold
+flatReading t = record { refusal = number t; row = row t; reading = valuesOr 0 t }
+
+-- no products
+abbrev pub notBurnt : Products
+notBurnt = record { co2 = 0; h2o = 0; o2 = 0; n2 = 0; ar = 0 }
+
+abbrev pub flatBurn : Told Products → BurnTold
+flatBurn t =
+    let p = valuesOr notBurnt t in
+    record { refusal = number t; row = row t; co2 = p .co2; h2o = p .h2o; o2 = p .o2; n2 = p .n2; ar = p .ar }
+
+-- a gas heat, a content or a specific content
+abbrev pub flatHeat : Told ℤ → HeatTold
+flatHeat t = record { refusal = number t; row = row t; heat = valuesOr (pos 0) t }
 
 -- no temperature and no rest
 abbrev pub notFound : Found

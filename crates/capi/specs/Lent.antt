@@ -1,13 +1,15 @@
 -- The calls that write into lent lists, whole: the struct that comes back and every lent place. Each is the entry's own promise with its answer flattened. Definitions only.
-use mathlib.Core.List.{List}
+use mathlib.Core.List.{List, [], _∷_}
 use mathlib.Core.Path.{_≡_}
 use Prim.Native.Nat.{ℕ}
 use lib.IntN.{ℤ}
 use lib.ListN.{length}
-use Rattle.air.specs.Refusals.{Told, gives, refuses, refusesRow}
+use Rattle.air.specs.Refusals.{Told, gives, refuses, refusesRow, _when_, first}
 use Rattle.air.specs.Inverse.{looks, written}
 use Rattle.air.specs.Answers.{psiValue, psiInverseTold}
+use Rattle.sheet.specs.Sheet.{notLong}
 use Rattle.sheet.specs.Answers.{Form, readTold, numbersOf}
+use Rattle.built_in.specs.BuiltIn.{builtIn}
 use Rattle.gas.specs.declared.Charge.{Charge}
 use Rattle.gas.specs.Burning.{Weights, gasOf}
 use Rattle.gas.specs.Heat.{gasHeat}
@@ -20,7 +22,7 @@ use Rattle.capi.specs.declared.PsiTold.{PsiTold}
 use Rattle.capi.specs.declared.WalkTold.{WalkTold}
 use Rattle.capi.specs.Flat.{flatSheet, flatTemperature, flatPsi, flatWalk}
 
--- the list of a sheet after its text was read: all numbers of a good sheet, and unchanged by a refusal
+-- the list of a sheet after a call that fills it: all numbers of the sheet, and unchanged by a refusal
 abbrev pub listTold : Told (Unit {0}) → List ℕ → List ℕ → List ℕ
 listTold (gives a) numbers before = numbers
 listTold (refuses n) numbers before = before
@@ -30,6 +32,14 @@ pub record SheetIs (text before : List ℕ) (r : SheetTold) (later : List ℕ) :
   pub form : Form text
   pub told : r ≡ flatSheet (readTold before form)
   pub list : later ≡ listTold (readTold before form) (numbersOf form) before
+
+-- the built-in sheet into a lent list: refusal 1 alone
+abbrev pub builtInTold : List ℕ → Told (Unit {0})
+builtInTold before = first (1 when notLong before ∷ []) tt
+
+pub record BuiltInIs (before : List ℕ) (r : SheetTold) (later : List ℕ) : Type 0 where
+  pub told : r ≡ flatSheet (builtInTold before)
+  pub list : later ≡ listTold (builtInTold before) builtIn before
 
 pub record TemperatureIs (w : Weights) (ch : Charge) (target : ℤ) (s before : List ℕ) (r : TemperatureTold) (after : List ℕ) : Type 0 where
   pub told : r ≡ flatTemperature (temperatureTold w ch target s (length before))

@@ -5,21 +5,29 @@ use Prim.Native.Nat.{ℕ}
 use lib.IntN.{ℤ}
 use lib.Ieee.{Float}
 use Rattle.air.specs.Refusals.{Told}
+use Rattle.air.specs.Answers.{heatTold as airHeatTold, psiTold as airPsiTold, cpTold as airCpTold}
 use Rattle.sheet.specs.Answers.{readTold, judgeTold}
 use Rattle.sheet.specs.FormLaws.{one-form}
 use Rattle.gas.specs.declared.Charge.{Charge}
 use Rattle.gas.specs.Burning.{Weights}
+use Rattle.gas.specs.Answers.{burnTold, heatTold, contentTold, specificTold}
 use Rattle.walk.specs.Walk.{Trace}
 use Rattle.marking.specs.Marking.{marked}
 use Rattle.marking.specs.Figures.{stationTold}
 use Rattle.capi.specs.declared.SheetTold.{SheetTold}
+use Rattle.capi.specs.declared.ReadingTold.{ReadingTold}
+use Rattle.capi.specs.declared.BurnTold.{BurnTold}
+use Rattle.capi.specs.declared.HeatTold.{HeatTold}
 use Rattle.capi.specs.declared.TemperatureTold.{TemperatureTold}
 use Rattle.capi.specs.declared.PsiTold.{PsiTold}
 use Rattle.capi.specs.declared.WalkTold.{WalkTold}
 use Rattle.capi.specs.declared.StationTold.{StationTold}
 use Rattle.capi.specs.declared.MarkTold.{MarkTold}
-use Rattle.capi.specs.Flat.{flatSheet, flatStation, flatMark, typedOf}
-use Rattle.capi.specs.Lent.{listTold, SheetIs, TemperatureIs, PsiIs, WalkIs}
+use Rattle.capi.specs.Flat.{flatSheet, flatReading, flatBurn, flatHeat, flatStation, flatMark, typedOf}
+use Rattle.capi.specs.Lent.{listTold, SheetIs, BuiltInIs, TemperatureIs, PsiIs, WalkIs}
+
+pub «one-gaskeys_version_1» : (r q : ℕ) → r ≡ 1 → q ≡ 1 → r ≡ q
+«one-gaskeys_version_1» r q p o = p ∙ sym o
 
 pub one-gaskeys_read_sheet : {text before later after : List ℕ} {r q : SheetTold} → SheetIs text before r later → SheetIs text before q after → (r ≡ q) × (later ≡ after)
 one-gaskeys_read_sheet {before = before} p o =
@@ -29,6 +37,31 @@ one-gaskeys_read_sheet {before = before} p o =
 
 pub one-gaskeys_judge_sheet : (s : List ℕ) (r q : SheetTold) → r ≡ flatSheet (judgeTold s) → q ≡ flatSheet (judgeTold s) → r ≡ q
 one-gaskeys_judge_sheet s r q p o = p ∙ sym o
+
+pub «one-gaskeys_built_in_sheet» : {before later after : List ℕ} {r q : SheetTold} → BuiltInIs before r later → BuiltInIs before q after → (r ≡ q) × (later ≡ after)
+«one-gaskeys_built_in_sheet» p o = (p .told ∙ sym (o .told), p .list ∙ sym (o .list))
+
+pub one-gaskeys_air_heat : (mk : ℤ) (r q : ReadingTold) → r ≡ flatReading (airHeatTold mk) → q ≡ flatReading (airHeatTold mk) → r ≡ q
+one-gaskeys_air_heat mk r q p o = p ∙ sym o
+
+pub one-gaskeys_air_psi : (mk : ℤ) (r q : ReadingTold) → r ≡ flatReading (airPsiTold mk) → q ≡ flatReading (airPsiTold mk) → r ≡ q
+one-gaskeys_air_psi mk r q p o = p ∙ sym o
+
+pub one-gaskeys_air_cp : (kelvin : ℤ) (r q : ReadingTold) → r ≡ flatReading (airCpTold kelvin) → q ≡ flatReading (airCpTold kelvin) → r ≡ q
+one-gaskeys_air_cp kelvin r q p o = p ∙ sym o
+
+pub one-gaskeys_burn : (w : Weights) (ch : Charge) (r q : BurnTold) → r ≡ flatBurn (burnTold w ch) → q ≡ flatBurn (burnTold w ch) → r ≡ q
+one-gaskeys_burn w ch r q p o = p ∙ sym o
+
+module _ (w : Weights) (ch : Charge) (mk : ℤ) (s : List ℕ) (r q : HeatTold) where
+  pub one-gaskeys_gas_heat : r ≡ flatHeat (heatTold w ch mk s) → q ≡ flatHeat (heatTold w ch mk s) → r ≡ q
+  one-gaskeys_gas_heat p o = p ∙ sym o
+
+  pub one-gaskeys_content : r ≡ flatHeat (contentTold w ch mk s) → q ≡ flatHeat (contentTold w ch mk s) → r ≡ q
+  one-gaskeys_content p o = p ∙ sym o
+
+  pub one-gaskeys_specific_content : r ≡ flatHeat (specificTold w ch mk s) → q ≡ flatHeat (specificTold w ch mk s) → r ≡ q
+  one-gaskeys_specific_content p o = p ∙ sym o
 
 pub one-gaskeys_temperature : {w : Weights} {ch : Charge} {target : ℤ} {s before after later : List ℕ} {r q : TemperatureTold}
     → TemperatureIs w ch target s before r after → TemperatureIs w ch target s before q later → (r ≡ q) × (after ≡ later)

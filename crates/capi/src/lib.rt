@@ -1,6 +1,7 @@
 // The calls for C and Rust: numbers and lent lists in, one struct by value out. Each takes every input and asks the entry of the same name; its promise is that entry's,
 // with the answer set out as a struct: 0 or the refusal's number, the row of refusals 2 and 3, the values, and 0 in every field that a case does not have
-// (specs/Flat.antt). Lent lists hold on return what the entry promises (specs/Lent.antt). include/gaskeys.h has the same calls for a reader of C.
+// (specs/Flat.antt). Lent lists hold on return what the entry promises (specs/Lent.antt). Two have no entry below: the built-in sheet put into a list, and the version.
+// include/gaskeys.h has the same calls for a reader of C.
 mod telling;
 
 use air::Millikelvin;
@@ -8,19 +9,52 @@ use gas::Charge;
 use gas::Heat;
 ghost use mathlib.Core.Path.{_≡_};
 ghost use lib.ListN.{length};
+ghost use Rattle.air.specs.Answers.{heatTold as airHeatTold, psiTold as airPsiTold, cpTold as airCpTold};
 ghost use Rattle.sheet.specs.Answers.{sheetLines, judgeTold};
 ghost use Rattle.gas.specs.Burning.{document01};
+ghost use Rattle.gas.specs.Answers.{burnTold, heatTold, contentTold, specificTold};
 ghost use Rattle.walk.specs.Walk.{walked};
 ghost use Rattle.marking.specs.Marking.{marked};
 ghost use Rattle.marking.specs.Figures.{stationTold};
-ghost use Rattle.capi.specs.Flat.{flatSheet, flatStation, flatMark, typedOf};
-ghost use Rattle.capi.specs.Lent.{SheetIs, TemperatureIs, PsiIs, WalkIs};
+ghost use Rattle.capi.specs.Flat.{flatSheet, flatBurn, flatHeat, flatReading, flatStation, flatMark, typedOf};
+ghost use Rattle.capi.specs.Lent.{SheetIs, BuiltInIs, TemperatureIs, PsiIs, WalkIs};
 
-// What the reader and the judge of a sheet tell.
+// up by one where a list or a struct changes its meaning
+const VERSION: u32 = 1;
+
+// What the calls that read, judge or give a sheet tell.
 #[repr(C)]
 pub struct SheetTold {
     pub refusal: u32,
     pub row: u32,
+}
+
+// What a charge burns to, in mg.
+#[repr(C)]
+pub struct BurnTold {
+    pub refusal: u32,
+    pub row: u32,
+    pub co2: u64,
+    pub h2o: u64,
+    pub o2: u64,
+    pub n2: u64,
+    pub ar: u64,
+}
+
+// A gas heat or a content in mg times 0.00001 C.H.U./lb, or a specific content in 0.00001 C.H.U./lb.
+#[repr(C)]
+pub struct HeatTold {
+    pub refusal: u32,
+    pub row: u32,
+    pub heat: i64,
+}
+
+// A number read from the air table.
+#[repr(C)]
+pub struct ReadingTold {
+    pub refusal: u32,
+    pub row: u32,
+    pub reading: u64,
 }
 
 // The temperature of a gas heat, with the rest in mg times 0.00001 C.H.U./lb.
@@ -72,6 +106,14 @@ pub struct MarkTold {
     pub counts: u32,
 }
 
+// The version of these calls. The symbol has it in its name, so that what was compiled for another version does not link.
+#[no_mangle]
+pub extern "C" fn gaskeys_version_1() -> u32
+    ensures { λ r. ⌜ r ≡ 1 ⌝ }
+{
+    VERSION
+}
+
 // Reads the text of a sheet into a list of 5,403 numbers.
 #[no_mangle]
 pub extern "C" fn gaskeys_read_sheet(text: &[u8], list: &mut [u32]) -> SheetTold
@@ -86,6 +128,111 @@ pub extern "C" fn gaskeys_judge_sheet(list: &[u32]) -> SheetTold
     ensures { λ r. ⌜ r ≡ flatSheet (judgeTold (now (list .entry))) ⌝ }
 {
     telling::tell_sheet(sheet::judge_sheet(list))
+}
+
+// Puts the built-in sheet into a list of 5,403 numbers.
+#[no_mangle]
+pub extern "C" fn gaskeys_built_in_sheet(list: &mut [u32]) -> SheetTold
+    ensures { λ r. ⌜ BuiltInIs (now (list .entry)) r (now (list .exit)) ⌝ }
+{
+    if list.len() != 5403 {
+        return SheetTold {
+            refusal: sheet::LIST_LENGTH,
+            row: 0,
+        };
+    }
+    let numbers = built_in::sheet();
+    sheet::inner::copy(&numbers, list);
+    SheetTold { refusal: 0, row: 0 }
+}
+
+// The heat of air per pound at a temperature, in 0.00001 C.H.U./lb.
+#[no_mangle]
+pub extern "C" fn gaskeys_air_heat(millikelvin: i64) -> ReadingTold
+    ensures { λ r. ⌜ r ≡ flatReading (airHeatTold millikelvin) ⌝ }
+{
+    telling::tell_reading(air::heat(Millikelvin(millikelvin)))
+}
+
+// psi of air at a temperature, in 0.0000001.
+#[no_mangle]
+pub extern "C" fn gaskeys_air_psi(millikelvin: i64) -> ReadingTold
+    ensures { λ r. ⌜ r ≡ flatReading (airPsiTold millikelvin) ⌝ }
+{
+    telling::tell_reading(air::psi(Millikelvin(millikelvin)))
+}
+
+// Cp of air at a whole number of kelvins, in ten-thousandths, as printed.
+#[no_mangle]
+pub extern "C" fn gaskeys_air_cp(kelvin: i64) -> ReadingTold
+    ensures { λ r. ⌜ r ≡ flatReading (airCpTold kelvin) ⌝ }
+{
+    telling::tell_reading(air::cp(kelvin))
+}
+
+// What a charge burns to, in mg.
+#[no_mangle]
+pub extern "C" fn gaskeys_burn(air: i64, carbon: i64, hydrogen: i64) -> BurnTold
+    ensures { λ r. ⌜ r ≡ flatBurn (burnTold document01 (record { air = air; carbon = carbon; hydrogen = hydrogen })) ⌝ }
+{
+    telling::tell_burn(gas::burn(air, carbon, hydrogen))
+}
+
+// The gas heat of a charge at a temperature.
+#[no_mangle]
+pub extern "C" fn gaskeys_gas_heat(
+    air: i64,
+    carbon: i64,
+    hydrogen: i64,
+    millikelvin: i64,
+    sheet: &[u32],
+) -> HeatTold
+    ensures { λ r. ⌜ r ≡ flatHeat (heatTold document01 (record { air = air; carbon = carbon; hydrogen = hydrogen }) millikelvin (now (sheet .entry))) ⌝ }
+{
+    let charge = Charge {
+        air,
+        carbon,
+        hydrogen,
+    };
+    telling::tell_heat(gas::gas_heat(charge, Millikelvin(millikelvin), sheet))
+}
+
+// The content of a charge above 15 °C at a temperature.
+#[no_mangle]
+pub extern "C" fn gaskeys_content(
+    air: i64,
+    carbon: i64,
+    hydrogen: i64,
+    millikelvin: i64,
+    sheet: &[u32],
+) -> HeatTold
+    ensures { λ r. ⌜ r ≡ flatHeat (contentTold document01 (record { air = air; carbon = carbon; hydrogen = hydrogen }) millikelvin (now (sheet .entry))) ⌝ }
+{
+    let charge = Charge {
+        air,
+        carbon,
+        hydrogen,
+    };
+    telling::tell_heat(gas::content(charge, Millikelvin(millikelvin), sheet))
+}
+
+// The specific content of a charge at a temperature, the fraction dropped toward zero.
+#[no_mangle]
+pub extern "C" fn gaskeys_specific_content(
+    air: i64,
+    carbon: i64,
+    hydrogen: i64,
+    millikelvin: i64,
+    sheet: &[u32],
+) -> HeatTold
+    ensures { λ r. ⌜ r ≡ flatHeat (specificTold document01 (record { air = air; carbon = carbon; hydrogen = hydrogen }) millikelvin (now (sheet .entry))) ⌝ }
+{
+    let charge = Charge {
+        air,
+        carbon,
+        hydrogen,
+    };
+    telling::tell_specific(gas::specific_content(charge, Millikelvin(millikelvin), sheet))
 }
 
 // The greatest temperature whose gas heat is at most the target. The looks go into the first eleven places of the list, 0 where unused.

@@ -1,14 +1,21 @@
 // Each answer as the struct that C gets: one definition of specs/Flat.antt each. A typed answer comes in by the number of its kind.
+use crate::BurnTold;
+use crate::HeatTold;
 use crate::MarkTold;
 use crate::PsiTold;
+use crate::ReadingTold;
 use crate::SheetTold;
 use crate::StationTold;
 use crate::TemperatureTold;
 use crate::WalkTold;
 use air::Millikelvin;
 use air::PsiAnswer;
+use air::Reading;
 use air::Refusal;
+use gas::BurnAnswer;
 use gas::Charge;
+use gas::HeatAnswer;
+use gas::SpecificAnswer;
 use gas::TemperatureAnswer;
 use marking::MarkAnswer;
 use marking::StationAnswer;
@@ -16,13 +23,14 @@ use marking::Typed;
 use sheet::SheetAnswer;
 use walk::WalkAnswer;
 ghost use mathlib.Core.Path.{_≡_};
-ghost use Rattle.air.specs.Answers.{paperPsi};
+ghost use Rattle.air.specs.Refusals.{refused};
+ghost use Rattle.air.specs.Answers.{paperReading, paperPsi};
 ghost use Rattle.sheet.specs.Answers.{paper as paperSheet};
-ghost use Rattle.gas.specs.Answers.{paperTemperature};
+ghost use Rattle.gas.specs.Answers.{paperBurn, paperHeat, paperSpecific, paperTemperature};
 ghost use Rattle.walk.specs.Walk.{paperWalk};
 ghost use Rattle.marking.specs.Marking.{paper as paperMark};
 ghost use Rattle.marking.specs.Figures.{paperStation};
-ghost use Rattle.capi.specs.Flat.{numberIn, rowIn, flatSheet, flatTemperature, flatPsi, flatWalk, flatBegun, flatStation, flatMark, typedOf};
+ghost use Rattle.capi.specs.Flat.{numberIn, rowIn, flatSheet, flatReading, flatBurn, flatHeat, flatTemperature, flatPsi, flatWalk, flatBegun, flatStation, flatMark, typedOf};
 
 // The number of a refusal.
 fn number_of(r: Refusal) -> u32
@@ -54,6 +62,89 @@ pub(crate) fn tell_sheet(answer: SheetAnswer) -> SheetTold
             refusal: number_of(r),
             row: row_of(r),
         },
+    }
+}
+
+// A number read from the air table.
+pub(crate) fn tell_reading(answer: Reading) -> ReadingTold
+    ensures { λ r. ⌜ r ≡ flatReading (paperReading answer) ⌝ }
+{
+    match answer {
+        Reading::Is(reading) => ReadingTold {
+            refusal: 0,
+            row: 0,
+            reading,
+        },
+        Reading::Refused(r) => ReadingTold {
+            refusal: number_of(r),
+            row: row_of(r),
+            reading: 0,
+        },
+    }
+}
+
+// The products of a charge.
+pub(crate) fn tell_burn(answer: BurnAnswer) -> BurnTold
+    ensures { λ r. ⌜ r ≡ flatBurn (paperBurn answer) ⌝ }
+{
+    match answer {
+        BurnAnswer::Is(products) => BurnTold {
+            refusal: 0,
+            row: 0,
+            co2: products.co2,
+            h2o: products.h2o,
+            o2: products.o2,
+            n2: products.n2,
+            ar: products.ar,
+        },
+        BurnAnswer::Refused(r) => BurnTold {
+            refusal: number_of(r),
+            row: row_of(r),
+            co2: 0,
+            h2o: 0,
+            o2: 0,
+            n2: 0,
+            ar: 0,
+        },
+    }
+}
+
+// A refusal where a heat was asked for.
+fn no_heat(r: Refusal) -> HeatTold
+    ensures { λ t. ⌜ t ≡ flatHeat (refused r) ⌝ }
+{
+    HeatTold {
+        refusal: number_of(r),
+        row: row_of(r),
+        heat: 0,
+    }
+}
+
+// A gas heat or a content.
+pub(crate) fn tell_heat(answer: HeatAnswer) -> HeatTold
+    ensures { λ r. ⌜ r ≡ flatHeat (paperHeat answer) ⌝ }
+{
+    match answer {
+        HeatAnswer::Is(heat) => HeatTold {
+            refusal: 0,
+            row: 0,
+            heat: heat.0,
+        },
+        HeatAnswer::Refused(r) => no_heat(r),
+    }
+}
+
+// A specific content.
+pub(crate) fn tell_specific(answer: SpecificAnswer) -> HeatTold
+    ensures { λ r. ⌜ r ≡ flatHeat (paperSpecific answer) ⌝ }
+{
+    match answer {
+        SpecificAnswer::Is(heat) => HeatTold {
+            refusal: 0,
+            row: 0,
+            heat,
+        },
+        SpecificAnswer::Refused(r) => no_heat(r),
     }
 }
 

@@ -1,12 +1,21 @@
-// `keys ask`: every line of standard input is answered. Answers are written in large pieces, and before each read, so that whoever asks has them.
+// `keys ask`: every line of standard input is answered. Answers are written in large pieces, and before each read, so that whoever asks has them. After a write that
+// failed nothing is read, put or written any more.
 use crate::lines;
 use libc::STDIN_FILENO;
 use sheet::SheetAnswer;
 use stream::Got;
 use stream::Held;
-ghost use Prim.Native.Nat.{_+_, _/_, _≤_};
+use stream::Output;
+ghost use Prim.Native.Nat.{_+_, _≤_};
 ghost use lib.ListN.{length};
+ghost use Rattle.stream.specs.Writing.{Free, Leaves};
 ghost use Rattle.console.specs.Answers.{Judged};
+
+// A line that is still read, with the output.
+struct Turn {
+    held: Held,
+    output: Output,
+}
 
 // Answers every line of standard input.
 pub(crate) fn ask(verdict: SheetAnswer, sheet: &[u32])
@@ -15,76 +24,94 @@ pub(crate) fn ask(verdict: SheetAnswer, sheet: &[u32])
     let mut piece = io::large_buffer();
     let mut line = io::large_buffer();
     let mut out = io::large_buffer();
-    answer_input(verdict, sheet, &mut piece, &mut line, &mut out);
+    let turn = answer_input(verdict, sheet, &mut piece, &mut line, &mut out);
+    answer_last(turn, &line, verdict, sheet, &mut out);
 }
 
-// A proved loop has to end, and nothing says that the input does: so it counts its turns down, from a number that no run uses up.
+// Answers the lines of standard input that a line feed ends. A proved loop has to end, and nothing says that the input does: so it counts its turns down, from a number that
+// no run uses up.
 fn answer_input(
     verdict: SheetAnswer,
     sheet: &[u32],
     piece: &mut [u8],
     line: &mut [u8],
     out: &mut [u8],
-)
+) -> Turn
     requires { ⌜ Judged verdict (now sheet) × (16384 ≤ length (now out)) ⌝ }
+    ensures { λ r. ⌜ Free (r .output) (now (out .exit)) ⌝ }
 {
-    let mut held = Held::Bytes(0);
+    let mut turn = Turn {
+        held: Held::Bytes(0),
+        output: Output::At(0),
+    };
     let mut turns = u64::MAX;
     while turns > 0 {
         turns -= 1;
         match stream::read_some(STDIN_FILENO, b"standard input", piece) {
             Got::Bytes(n) => {
-                held = answer_piece(held, &piece[..n], verdict, sheet, line, out);
+                turn = answer_piece(turn, &piece[..n], verdict, sheet, line, out);
+                let output = turn.output;
+                turns = stream::turns_left(turns, output);
             }
             Got::End => {
-                answer_last(held, line, verdict, sheet, out);
                 turns = 0;
             }
             Got::Failed => {
+                let output = turn.output;
+                turn = Turn {
+                    held: Held::Bytes(0),
+                    output,
+                };
                 turns = 0;
             }
         }
     }
+    turn
 }
 
-// Answers the lines that end in a piece, and writes the answers. Answers the line that goes on.
+// Answers the lines that end in a piece, and writes the answers.
 fn answer_piece(
-    held: Held,
+    turn: Turn,
     piece: &[u8],
     verdict: SheetAnswer,
     sheet: &[u32],
     line: &mut [u8],
     out: &mut [u8],
-) -> Held
-    requires { ⌜ Judged verdict (now sheet) × (16384 ≤ length (now out)) ⌝ }
+) -> Turn
+    requires { ⌜ Judged verdict (now sheet) × (16384 ≤ length (now out)) × Free (turn .output) (now out) ⌝ }
+    ensures { λ r. ⌜ Leaves (turn .output) (now (out .entry)) (r .output) (now (out .exit)) ⌝ }
 {
-    let mut held = held;
-    let mut at = 0;
+    let mut held = turn.held;
+    let mut output = turn.output;
     let mut from = 0;
     while from < piece.len() {
         let taken = stream::take_line(held, piece, from, line);
         held = taken.held;
         from = taken.next;
         if taken.whole {
-            at = answer_held(held, line, verdict, sheet, out, at);
+            output = answer_held(held, line, verdict, sheet, out, output);
             held = Held::Bytes(0);
         }
     }
-    stream::flush(out, at);
-    held
+    Turn {
+        held,
+        output: stream::flush(out, output),
+    }
 }
 
 // Answers a last line that no line feed ended.
-fn answer_last(held: Held, line: &[u8], verdict: SheetAnswer, sheet: &[u32], out: &mut [u8])
-    requires { ⌜ Judged verdict (now sheet) × (16384 ≤ length (now out)) ⌝ }
+fn answer_last(turn: Turn, line: &[u8], verdict: SheetAnswer, sheet: &[u32], out: &mut [u8])
+    requires { ⌜ Judged verdict (now sheet) × (16384 ≤ length (now out)) × Free (turn .output) (now out) ⌝ }
 {
+    let held = turn.held;
     if let Held::Bytes(n) = held {
         if n == 0 {
             return;
         }
     }
-    let at = answer_held(held, line, verdict, sheet, out, 0);
-    stream::flush(out, at);
+    let output = turn.output;
+    let last = answer_held(held, line, verdict, sheet, out, output);
+    stream::flush(out, last);
 }
 
 // Answers the line that is held, and writes the answers where they fill half of the output. No answer is longer than 8,192 bytes (`answer-short` of the console), so none is cut.
@@ -94,20 +121,34 @@ fn answer_held(
     verdict: SheetAnswer,
     sheet: &[u32],
     out: &mut [u8],
+    output: Output,
+) -> Output
+    requires { ⌜ Judged verdict (now sheet) × (16384 ≤ length (now out)) × Free output (now out) ⌝ }
+    ensures { λ r. ⌜ Leaves output (now (out .entry)) r (now (out .exit)) ⌝ }
+{
+    let Output::At(at) = output else {
+        return Output::Closed;
+    };
+    let next = put_answer(held, line, verdict, sheet, out, at);
+    stream::make_room(out, Output::At(next))
+}
+
+// The answer to the line that is held.
+fn put_answer(
+    held: Held,
+    line: &[u8],
+    verdict: SheetAnswer,
+    sheet: &[u32],
+    out: &mut [u8],
     at: usize,
 ) -> usize
     requires { ⌜ Judged verdict (now sheet) × (at + 8192 ≤ length (now out)) ⌝ }
-    ensures { λ r. ⌜ r ≤ length (now (out .exit)) / 2 ⌝ }
 {
     match held {
         Held::Bytes(n) => {
             let end = lines::end_of(n, line);
-            let next = console::inner::answer_judged(&line[0..end], verdict, sheet, out, at);
-            stream::make_room(out, next)
+            console::inner::answer_judged(&line[0..end], verdict, sheet, out, at)
         }
-        Held::Over => {
-            let next = text::put_text(b"error\tthe line is too long\n", out, at);
-            stream::make_room(out, next)
-        }
+        Held::Over => text::put_text(b"error\tthe line is too long\n", out, at),
     }
 }

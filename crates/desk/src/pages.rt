@@ -1,8 +1,8 @@
 // What is printed whole: the example, a verdict, how to go on.
 use air::Millikelvin;
 use gas::Charge;
-use libc::STDERR_FILENO;
 use sheet::SheetAnswer;
+use stream::Output;
 ghost use Rattle.console.specs.Answers.{Judged};
 
 // How to go on.
@@ -30,7 +30,7 @@ pub(crate) fn say_usage() {
     let mut out = io::buffer();
     let next = text::put_text(b"keys: no such form\n", &mut out, 0);
     let end = put_usage(&mut out, next);
-    stream::write_some(STDERR_FILENO, b"standard error", &out, end);
+    stream::say(&out, end);
 }
 
 // Prints document 01's walk, A 1, no fuel, from 200,000 mK, and how to go on.
@@ -55,7 +55,7 @@ pub(crate) fn print_example(verdict: SheetAnswer, sheet: &[u32])
     );
     let line = text::put_byte(10, &mut out, next);
     let end = put_usage(&mut out, line);
-    stream::flush(&out, end);
+    stream::flush(&out, Output::At(end));
 }
 
 // Prints the verdict on a sheet file.
@@ -63,7 +63,7 @@ pub(crate) fn print_verdict(verdict: SheetAnswer) {
     let mut out = [0u8; 64];
     let next = put_verdict(verdict, &mut out);
     let end = text::put_byte(10, &mut out, next);
-    stream::flush(&out, end);
+    stream::flush(&out, Output::At(end));
 }
 
 // `accepted`, or the refusal.

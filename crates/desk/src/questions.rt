@@ -6,11 +6,11 @@ use crate::lines;
 use air::Millikelvin;
 use fields::Four;
 use gas::Charge;
-use libc::STDERR_FILENO;
 use libc::STDIN_FILENO;
 use sheet::SheetAnswer;
 use stream::Got;
 use stream::Held;
+use stream::Output;
 ghost use Prim.Native.Nat.{_≤_};
 ghost use mathlib.Core.Path.{_≡_};
 ghost use lib.ListN.{length};
@@ -199,7 +199,7 @@ fn print_walk(lines: u64, numbers: &[i64], verdict: SheetAnswer, sheet: &[u32])
         &mut out,
         0,
     );
-    stream::flush(&out, next);
+    stream::flush(&out, Output::At(next));
 }
 
 // Says on standard error which line is not what was expected.
@@ -213,7 +213,7 @@ fn say_bad(line: u64) {
         number,
     );
     let end = put_expected(line, &mut out, next);
-    stream::write_some(STDERR_FILENO, b"standard error", &out, end);
+    stream::say(&out, end);
 }
 
 // What the numbers of a line are.

@@ -9,4 +9,5 @@ pub mod BoundsLaws
 pub mod RestLaws
 pub mod AnswersLaws
 pub mod OneOutcome
+pub mod Demand1Laws
 pub mod Examples

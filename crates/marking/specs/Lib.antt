@@ -6,3 +6,4 @@ pub mod Figures
 pub mod FiguresLaws
 pub mod StationLaws
 pub mod OneOutcome
+pub mod Demand1Laws

@@ -10,6 +10,7 @@ pub mod FirstBadLaws
 pub mod SheetLaws
 pub mod FormLaws
 pub mod OneOutcome
+pub mod Demand1Laws
 pub mod AnswersLaws
 pub mod ExampleSheets
 pub mod ExampleSheetsLaws

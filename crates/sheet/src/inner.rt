@@ -1,4 +1,4 @@
-// The inner doors of sheet, for the calls above that take a sheet list: the list judged with the air column lent, and its columns read by kelvin.
+// The inner doors of sheet, for the calls above that take a sheet list: the list judged with the air column lent, its columns read by kelvin, and a whole sheet put into it.
 use crate::SheetAnswer;
 use crate::judging;
 use air::Refusal;
@@ -54,4 +54,16 @@ pub fn h2o_at(list: &[u32], kelvin: u64) -> u64
     ensures { λ r. ⌜ (r ≡ h2o (now (list .entry)) kelvin) × (r < 4294967296) ⌝ }
 {
     wide(list[3 * (kelvin - 200) as usize + 2])
+}
+
+// Writes the numbers of a whole sheet into the lent list.
+pub fn copy(numbers: &[u32; 5403], list: &mut [u32])
+    requires { ⌜ (length (now numbers) ≡ 5403) × (length (now list) ≡ 5403) ⌝ }
+    ensures { λ _. ⌜ now (list .exit) ≡ now (numbers .entry) ⌝ }
+{
+    let mut i = 0;
+    while i < 5403 {
+        list[i] = numbers[i];
+        i += 1;
+    }
 }

@@ -32,7 +32,7 @@ pub fn read_sheet(text: &[u8], list: &mut [u32]) -> SheetAnswer
     let mut numbers = [0u32; 5403];
     let s = machine::fill(machine::start(), text, &mut numbers);
     if machine::whole_sheet(s) {
-        machine::copy(&numbers, list);
+        inner::copy(&numbers, list);
         SheetAnswer::Good
     } else {
         SheetAnswer::Refused(Refusal::AtRow(FORM, machine::row_of(s)))

@@ -251,15 +251,3 @@ pub(crate) fn fill(from: Place, text: &[u8], list: &mut [u32]) -> State
     }
     State::Going(p)
 }
-
-// Writes the numbers of a whole sheet into the lent list.
-pub(crate) fn copy(numbers: &[u32; 5403], list: &mut [u32])
-    requires { ⌜ (length (now numbers) ≡ 5403) × (length (now list) ≡ 5403) ⌝ }
-    ensures { λ _. ⌜ now (list .exit) ≡ now (numbers .entry) ⌝ }
-{
-    let mut i = 0;
-    while i < 5403 {
-        list[i] = numbers[i];
-        i += 1;
-    }
-}

@@ -1,9 +1,13 @@
 // Lines from standard input and answers to standard output, for the programs. How a line is taken from the pieces that are read is promised by an equation
-// (specs/Taking.antt). No contract can say what is read or written, so the other calls promise that they are safe and end.
+// (specs/Taking.antt), and so is that a failed write closes the output for good (specs/Writing.antt). No contract can say what is read or written.
 ghost use mathlib.Core.Path.{_≡_};
-ghost use Prim.Native.Nat.{_≤_, _/_};
+ghost use Prim.Native.Nat.{_≤_};
 ghost use lib.ListN.{length};
 ghost use Rattle.stream.specs.Taking.{pushed, Takes, Inside};
+ghost use Rattle.stream.specs.Writing.{outcomeOf, Within, afterWrite, Flushed, Roomed, turnsLeft};
+use libc::EAGAIN;
+use libc::EINTR;
+use libc::STDERR_FILENO;
 use libc::STDIN_FILENO;
 use libc::STDOUT_FILENO;
 
@@ -93,30 +97,127 @@ pub fn read_piece(piece: &mut [u8]) -> usize
     }
 }
 
-// Writes what is filled of a buffer. A failure's line names where.
-pub fn write_some(fd: i32, what: &[u8], out: &[u8], at: usize) {
-    if at > out.len() {
-        return;
-    }
-    if !io::write_all(fd, &out[..at]) {
-        os::fail(what);
-    }
+// The output of a run: where its next byte goes, or that a write failed. Nothing is put and nothing is written after a failure, so what came out is a start of the answers.
+pub enum Output {
+    At(usize),
+    Closed,
 }
 
-// Writes what is filled of the output. Answers the place to go on at, the start.
-pub fn flush(out: &[u8], at: usize) -> usize
-    ensures { λ r. ⌜ r ≡ 0 ⌝ }
-{
-    write_some(STDOUT_FILENO, b"standard output", out, at);
-    0
+// What one write came to: so many bytes were taken, it may be tried again, or it failed.
+enum Wrote {
+    Took(usize),
+    Nothing,
+    Failed,
 }
 
-// Flushes where less than half of the output is free. Answers the place to go on at.
-pub fn make_room(out: &[u8], at: usize) -> usize
-    ensures { λ r. ⌜ r ≤ length (now (out .entry)) / 2 ⌝ }
+// Whether a write that took nothing may be tried again: where a signal interrupted it, or a pipe that does not block is full.
+fn passes(got: isize, error: i32) -> bool {
+    if got == 0 {
+        return false;
+    }
+    if error == EINTR {
+        return true;
+    }
+    error == EAGAIN
+}
+
+// What a write came to, by how many bytes it took.
+fn outcome(taken: usize, again: bool) -> Wrote
+    ensures { λ r. ⌜ r ≡ outcomeOf taken again ⌝ }
 {
+    if taken > 0 {
+        return Wrote::Took(taken);
+    }
+    if again { Wrote::Nothing } else { Wrote::Failed }
+}
+
+// One write of a part of a buffer.
+fn write_part(fd: i32, part: &[u8]) -> Wrote
+    ensures { λ r. ⌜ Within r (now (part .entry)) ⌝ }
+{
+    let got = libc::write(fd, part);
+    let again = passes(got, os::errno());
+    outcome(io::count(got, part), again)
+}
+
+// Writes the first bytes of a buffer, and goes on from where a write stopped. Answers whether all were taken. Its turns are counted down, from a number that no run uses up.
+fn write_first(fd: i32, out: &[u8], end: usize) -> bool
+    requires { ⌜ end ≤ length (now out) ⌝ }
+{
+    let mut from = 0;
+    let mut turns = u64::MAX;
+    while turns > 0 {
+        if from >= end {
+            return true;
+        }
+        turns -= 1;
+        match write_part(fd, &out[from..end]) {
+            Wrote::Took(n) => {
+                from += n;
+            }
+            Wrote::Nothing => {
+                libc::sched_yield();
+            }
+            Wrote::Failed => {
+                return false;
+            }
+        }
+    }
+    false
+}
+
+// The output after a write: its start where all was written, or closed.
+fn after(whole: bool) -> Output
+    ensures { λ r. ⌜ r ≡ afterWrite whole ⌝ }
+{
+    if whole { Output::At(0) } else { Output::Closed }
+}
+
+// Writes what is filled of the output. Answers where to go on: at the start, or nowhere, after a line on standard error.
+pub fn flush(out: &[u8], output: Output) -> Output
+    ensures { λ r. ⌜ Flushed output r ⌝ }
+{
+    let Output::At(at) = output else {
+        return Output::Closed;
+    };
+    let whole = write_first(STDOUT_FILENO, out, bounded(at, out));
+    if !whole {
+        os::fail(b"standard output");
+    }
+    after(whole)
+}
+
+// Flushes where less than half of the output is free. Answers where to go on.
+pub fn make_room(out: &[u8], output: Output) -> Output
+    ensures { λ r. ⌜ Roomed output (now (out .entry)) r ⌝ }
+{
+    let Output::At(at) = output else {
+        return flush(out, Output::Closed);
+    };
     if at < out.len() / 2 {
-        return at;
+        return Output::At(at);
     }
-    flush(out, at)
+    flush(out, Output::At(at))
+}
+
+// How many turns a loop that reads has left: none where the output is closed.
+pub fn turns_left(turns: u64, output: Output) -> u64
+    ensures { λ r. ⌜ r ≡ turnsLeft turns output ⌝ }
+{
+    match output {
+        Output::At(_) => turns,
+        Output::Closed => 0,
+    }
+}
+
+// Writes what is filled of a buffer to standard error. Nothing is left to say where that fails.
+pub fn say(out: &[u8], at: usize) {
+    write_first(STDERR_FILENO, out, bounded(at, out));
+}
+
+// A place of the buffer, or its end.
+fn bounded(at: usize, out: &[u8]) -> usize
+    ensures { λ r. ⌜ r ≤ length (now (out .entry)) ⌝ }
+{
+    if at < out.len() { at } else { out.len() }
 }

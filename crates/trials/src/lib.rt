@@ -10,6 +10,8 @@ mod walk_forms;
 
 use inverses::Inverse;
 use stream::Held;
+use stream::Output;
+ghost use Rattle.stream.specs.Writing.{StaysClosed};
 
 // Answers every line of standard input. The sheet is the built-in one until a line makes another.
 pub fn run() {
@@ -21,10 +23,10 @@ pub fn run() {
     answer_input(&mut piece, &mut line, &mut sheet, &mut out);
 }
 
-// How many places of the sheet's list are in use, and how far the output is filled.
+// How many places of the sheet's list are in use, and the output.
 struct Desk {
     places: usize,
-    at: usize,
+    output: Output,
 }
 
 // A line that is still read, with the desk.
@@ -39,7 +41,7 @@ fn answer_input(piece: &mut [u8], line: &mut [u8], sheet: &mut [u32], out: &mut 
         held: Held::Bytes(0),
         desk: Desk {
             places: 5403,
-            at: 0,
+            output: Output::At(0),
         },
     };
     let mut turns = u64::MAX;
@@ -50,6 +52,9 @@ fn answer_input(piece: &mut [u8], line: &mut [u8], sheet: &mut [u32], out: &mut 
             turns = 0;
         } else {
             turn = answer_piece(turn, &piece[..n], line, sheet, out);
+            let desk = turn.desk;
+            let output = desk.output;
+            turns = stream::turns_left(turns, output);
         }
     }
     answer_last(turn, line, sheet, out);
@@ -75,12 +80,12 @@ fn answer_piece(
             held = Held::Bytes(0);
         }
     }
-    let at = stream::flush(out, desk.at);
+    let output = desk.output;
     Turn {
         held,
         desk: Desk {
             places: desk.places,
-            at,
+            output: stream::flush(out, output),
         },
     }
 }
@@ -94,15 +99,22 @@ fn answer_last(turn: Turn, line: &[u8], sheet: &mut [u32], out: &mut [u8]) {
         }
     }
     let desk = answer_held(held, turn.desk, line, sheet, out);
-    stream::flush(out, desk.at);
+    let output = desk.output;
+    stream::flush(out, output);
 }
 
-// Answers the line that is held.
-fn answer_held(held: Held, desk: Desk, line: &[u8], sheet: &mut [u32], out: &mut [u8]) -> Desk {
+// Answers the line that is held, where the output is open.
+fn answer_held(held: Held, desk: Desk, line: &[u8], sheet: &mut [u32], out: &mut [u8]) -> Desk
+    ensures { λ r. ⌜ StaysClosed (desk .output) (now (out .entry)) (r .output) (now (out .exit)) ⌝ }
+{
+    let output = desk.output;
+    let Output::At(at) = output else {
+        return desk;
+    };
     match held {
         Held::Bytes(n) => {
             if n <= line.len() {
-                answer(&line[0..n], desk, sheet, out)
+                answer(&line[0..n], desk.places, sheet, out, at)
             } else {
                 desk
             }
@@ -225,7 +237,7 @@ fn make_sheet(numbers: &[i64], sheet: &mut [u32], out: &mut [u8], at: usize) -> 
     let next = sheet_forms::put_judged(numbers, &mut sheet[0..places], out, at);
     Desk {
         places,
-        at: text::put_byte(10, out, next),
+        output: Output::At(text::put_byte(10, out, next)),
     }
 }
 
@@ -252,18 +264,18 @@ fn answer_asked(
     }
 }
 
-// Answers a line, its line feed with it.
-fn answer(line: &[u8], desk: Desk, sheet: &mut [u32], out: &mut [u8]) -> Desk {
+// Answers a line over so many places of the sheet, its line feed with it.
+fn answer(line: &[u8], places: usize, sheet: &mut [u32], out: &mut [u8], at: usize) -> Desk {
     let end = fields::field_end(line, 0);
     let asked = asked_by(&line[0..end]);
     if let Asked::Sheet = asked {
-        let made = answer_sheet(line, end + 1, sheet, out, desk.at);
+        let made = answer_sheet(line, end + 1, sheet, out, at);
         return made;
     }
-    let places = lists::least(desk.places, sheet.len());
-    let next = answer_asked(asked, line, end + 1, &sheet[0..places], out, desk.at);
+    let places = lists::least(places, sheet.len());
+    let next = answer_asked(asked, line, end + 1, &sheet[0..places], out, at);
     Desk {
         places,
-        at: stream::make_room(out, next),
+        output: stream::make_room(out, Output::At(next)),
     }
 }

@@ -18,6 +18,7 @@ use Rattle.walk.specs.declared.WalkAnswer.{WalkAnswer}
 use Rattle.walk.specs.declared.WalkAnswer.the-variants.{Done, Stopped}
 use Rattle.walk.specs.declared.Step.{Step}
 use Rattle.walk.specs.Step.{State, Asked, held, newGas, askedOf}
+use Rattle.walk.specs.Walk.{noStep}
 use Rattle.walk.specs.Ledger.{ledger, dearest, sumOf}
 
 -- n steps were done, and this charge and temperature came back: of a walk done to its end, or stopped at a step
@@ -29,9 +30,6 @@ pub data CameBack : WalkAnswer → ℕ → Charge → ℤ → Type 0 where
 abbrev pub gasesAfter : Gas → List Step → List Gas
 gasesAfter g [] = []
 gasesAfter g (p ∷ ps) = newGas g p ∷ gasesAfter (newGas g p) ps
-
-abbrev pub noStep : Step
-noStep = record { carbon = pos 0; hydrogen = pos 0; value = pos 0; heat = pos 0 }
 
 -- the gas before step i: the start's with the fuel of all steps before
 abbrev pub gasBefore : Gas → List Step → ℕ → Gas
@@ -49,8 +47,10 @@ abbrev pub askedAt : Weights → List ℕ → State → List Step → List ℤ �
 askedAt w s st ps temperatures i =
     askedOf w s (held w s (standing st ps temperatures i)) (standing st ps temperatures i .gas) (getD ps i noStep)
 
--- a walk from the state st, of the steps ps that were done, that came back with this charge and temperature and left the lists so
-pub record Demand3 (w : Weights) (s : List ℕ) (st : State) (ps : List Step) (ch : Charge) (mk : ℤ) (t r : List ℤ) (l : List ℕ) : Type 0 where
+-- a walk from the state st, of the steps ps that were done, that came back with n steps, this charge and temperature and left the lists so
+pub record Demand3 (w : Weights) (s : List ℕ) (st : State) (ps : List Step) (n : ℕ) (ch : Charge) (mk : ℤ) (t r : List ℤ) (l : List ℕ) : Type 0 where
+  pub as-many : n ≡ length ps
+  pub last-written : (i : ℕ) → n ≡ suc i → mk ≡ getD t i (pos 0)
   pub never-exceeds : contentAbove15 w s (gasOf ch) (up mk) ≤ℤ ledger w s st ps
   pub equal-with-none : ps ≡ [] → contentAbove15 w s (gasOf ch) (up mk) ≡ ledger w s st ps
   pub shortfall : 0 < length ps → (ledger w s st ps -ℤ contentAbove15 w s (gasOf ch) (up mk)) <ℤ pos (sumOf (map (dearest w s) (gasesAfter (st .gas) ps)))

@@ -20,19 +20,19 @@ use Rattle.gas.specs.declared.Gas.{Gas}
 use Rattle.sheet.specs.Sheet.{Accepted}
 use Rattle.sheet.specs.Answers.{sheetLines}
 use Rattle.sheet.specs.AnswersLaws.{accepted-of-told}
-use Rattle.gas.specs.Burning.{Weights, Sound, beyond}
-use Rattle.gas.specs.BurningLaws.{limits-of}
+use Rattle.gas.specs.Burning.{Weights, Sound, document01, beyond}
+use Rattle.gas.specs.BurningLaws.{limits-of, document01-sound}
 use Rattle.gas.specs.HeatLaws.{gas-rises}
 use Rattle.gas.specs.Heat.{gasHeat}
 use Rattle.walk.specs.declared.WalkAnswer.{WalkAnswer}
 use Rattle.walk.specs.Lists.{laid}
 use Rattle.walk.specs.declared.Step.{Step}
 use Rattle.walk.specs.Step.{State, Asked, Out, held, added, newGas, askedOf, outOf}
-use Rattle.walk.specs.Walk.{Trace, End, ended, cut, run, width, stepsOf, startLines, startState, walked, courseOf, course, chargeOf, paperWalk, outsOf, temperaturesOf, restsOf, looksOf, Walks}
+use Rattle.walk.specs.Walk.{Trace, End, ended, cut, run, noStep, width, stepsOf, startLines, startState, walked, courseOf, course, chargeOf, paperWalk, outsOf, temperaturesOf, restsOf, looksOf, Walks}
 use Rattle.walk.specs.Ledger.{total, ledger, dearest, sumOf, lastOf}
 use Rattle.walk.specs.RunLaws.{StepDone, step-done, of-run}
 use Rattle.walk.specs.LedgerLaws.{AllClimb, dearests, run-balances, gas-after}
-use Rattle.walk.specs.Demand3.{CameBack, done, stopped, gasesAfter, noStep, gasBefore, standing, askedAt, Demand3}
+use Rattle.walk.specs.Demand3.{CameBack, done, stopped, gasesAfter, gasBefore, standing, askedAt, Demand3}
 
 -- ---- the steps that a run did, one after the other
 data Chain (w : Weights) (s : List ℕ) : State → List Step → List Out → Type 0 where
@@ -103,6 +103,23 @@ getD-map f [] i e z l = absurd (not-suc-le-zero l)
 getD-map f (o ∷ os) zero e z l = refl
 getD-map f (o ∷ os) (suc i) e z l = getD-map f os i e z (le-of-suc-le-suc l)
 
+-- the last of the steps done is where a run ends
+lastFrom : State → List Out → State
+lastFrom st [] = st
+lastFrom st (o ∷ os) = lastFrom (o .state) os
+
+run-ends : (w : Weights) (s : List ℕ) (ps : List Step) (st : State) → lastOf (run w s st ps .end) ≡ lastFrom st (run w s st ps .outs)
+unfolding lastFrom
+run-ends w s = of-run w s (λ st ps t. lastOf (t .end) ≡ lastFrom st (t .outs)) (λ st. refl) (λ st p ps n. refl) (λ st p ps o e h. h)
+
+last-temperature : (os : List Out) (st : State) (i : ℕ) → length os ≡ suc i → pos (lastFrom st os .mk) ≡ getD (temperaturesOf os) i (pos 0)
+unfolding lastFrom
+last-temperature [] st i e = absurd (omega arith)
+last-temperature (o ∷ []) st zero e = refl
+last-temperature (o ∷ []) st (suc i) e = absurd (omega arith)
+last-temperature (o ∷ x ∷ os) st zero e = absurd (omega arith)
+last-temperature (o ∷ x ∷ os) st (suc i) e = last-temperature (x ∷ os) (o .state) i (omega arith)
+
 no-rests : (os : List Out) → length os ≡ 0 → total (restsOf os) ≡ pos 0
 no-rests [] e = refl
 no-rests (o ∷ os) e = absurd (omega arith)
@@ -143,9 +160,11 @@ module _ (w : Weights) (s : List ℕ) (climb : AllClimb w s) (st : State) (ps : 
   ledger-is : H +ℤ R ≡ ledger w s st (take n ps)
   ledger-is = run-balances w s climb ps st .balance
 
-  pub run-demand-3 : Demand3 w s st (take n ps) (chargeOf (lastOf (T .end) .gas)) (pos (lastOf (T .end) .mk))
+  pub run-demand-3 : Demand3 w s st (take n ps) n (chargeOf (lastOf (T .end) .gas)) (pos (lastOf (T .end) .mk))
       (laid (temperaturesOf (T .outs)) t) (laid (restsOf (T .outs)) r) (laid (looksOf (T .outs)) l)
   run-demand-3 = record {
+    as-many = sym steps-done;
+    last-written = λ i e. ap (λ (x : State). pos (x .mk)) (run-ends w s ps st) ∙ last-temperature (T .outs) st i e ∙ sym (temperatures-kept i (omega arith));
     never-exceeds = omega (zed, ledger-is, run-balances w s climb ps st .not-below, is-add (is-self H) (is-self R));
     equal-with-none = λ e. omega (zed, ledger-is, no-rests (T .outs) (sym steps-done ∙ ap length e), is-add (is-self H) (is-self R));
     shortfall = λ h. lt-by (is-minus (is-self (ledger w s st (take n ps))) (is-self H)) (is-pos (sumOf (map (dearest w s) (gasesAfter (st .gas) (take n ps)))))
@@ -189,7 +208,7 @@ module _ (w : Weights) (s : List ℕ) (climb : AllClimb w s) (lines : List Line)
   its-run T e = gives-clear (lines ++ startLines w start from (length numbers) (length t) (length r) (length l)) {a = run w s (startState start from) steps} {b = T} e .1
 
   demand-3-climbing : (a : WalkAnswer) (t′ r′ : List ℤ) (l′ : List ℕ) (n : ℕ) (ch : Charge) (mk : ℤ) → Walks told t r l a t′ r′ l′ → CameBack a n ch mk
-      → Demand3 w s (startState start from) (take n steps) ch mk t′ r′ l′
+      → Demand3 w s (startState start from) (take n steps) n ch mk t′ r′ l′
   demand-3-climbing a t′ r′ l′ n ch mk h c =
       let T = run w s (startState start from) steps in
       let b = began c told (h .answer) in
@@ -219,7 +238,13 @@ module _ (w : Weights) (so : Sound w) (s : List ℕ) (start : Charge) (from : �
   -- DEMAND 3: for every outcome that meets the promise of `walk` with n steps done, by the charge and temperature that came back and the lists as they are on return
   pub demand-3 : (a : WalkAnswer) (t′ r′ : List ℤ) (l′ : List ℕ) (n : ℕ) (ch : Charge) (mk : ℤ)
       → Walks (walked (sheetLines s) w s start from numbers (length t) (length r) (length l)) t r l a t′ r′ l′ → CameBack a n ch mk
-      → Demand3 w s (startState start from) (take n (stepsOf (length numbers / width) numbers)) ch mk t′ r′ l′
+      → Demand3 w s (startState start from) (take n (stepsOf (length numbers / width) numbers)) n ch mk t′ r′ l′
   demand-3 a t′ r′ l′ n ch mk h c =
       let b = began c (walked (sheetLines s) w s start from numbers (length t) (length r) (length l)) (h .answer) in
       demand-3-climbing w s (all-climb w so (began-accepted (b .0) (b .1))) (sheetLines s) start from numbers t r l a t′ r′ l′ n ch mk h c
+
+-- at document 01's weights nothing is left to suppose
+pub demand-3-document01 : (s : List ℕ) (start : Charge) (from : ℤ) (numbers : List ℤ) (t r : List ℤ) (l : List ℕ) (a : WalkAnswer) (t′ r′ : List ℤ) (l′ : List ℕ) (n : ℕ) (ch : Charge) (mk : ℤ)
+    → Walks (walked (sheetLines s) document01 s start from numbers (length t) (length r) (length l)) t r l a t′ r′ l′ → CameBack a n ch mk
+    → Demand3 document01 s (startState start from) (take n (stepsOf (length numbers / width) numbers)) n ch mk t′ r′ l′
+demand-3-document01 = demand-3 document01 document01-sound

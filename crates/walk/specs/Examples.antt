@@ -9,7 +9,7 @@ use Prim.Native.Nat.{ℕ, _+_, _/_, _%_, _<_, _≤_}
 use native.Mathlib.Omega.{arith}
 use lib.Dec.{lit<, lit≤}
 use lib.IntN.{ℤ, pos, negℤ, _+ℤ_}
-use lib.ListN.{length, drop, getD}
+use lib.ListN.{length, take, drop}
 use Rattle.signed.specs.Zed.{up, inZ, eqZ, is-pos, is-self, is-add, is-minus, same-by, outside, not-outside, zed}
 use Rattle.rows.specs.Rows.{rowsH}
 use Rattle.rows.specs.Table.{column, airH}
@@ -20,16 +20,18 @@ use Rattle.air.specs.Inverse.{looks, Found}
 use Rattle.sheet.specs.Sheet.{Accepted}
 use Rattle.sheet.specs.Answers.{sheetLines}
 use Rattle.sheet.specs.AnswersLaws.{past-sheet}
+use Rattle.gas.specs.declared.Charge.{Charge}
 use Rattle.gas.specs.declared.Gas.{Gas}
 use Rattle.gas.specs.Burning.{document01, beyond, lean, oxygenUsed}
 use Rattle.gas.specs.Heat.{gasHeat}
 use Rattle.gas.specs.Examples.{charge, at, air-alone, part-found}
+use Rattle.air.specs.declared.Millikelvin.{Millikelvin}
 use Rattle.air.specs.declared.Refusal.{Refusal}
 use Rattle.air.specs.declared.Refusal.the-variants.{Plain, AtRow}
 use Rattle.gas.specs.BurningLaws.{document01-sound}
 use Rattle.walk.specs.declared.Step.{Step}
 use Rattle.walk.specs.declared.WalkAnswer.{WalkAnswer}
-use Rattle.walk.specs.declared.WalkAnswer.the-variants.{Refused}
+use Rattle.walk.specs.declared.WalkAnswer.the-variants.{Stopped, Refused}
 use Rattle.walk.specs.Step.{Out, held, burnHeat, stepHeat, asked, sought, judge}
 use Rattle.walk.specs.Walk.{Trace, ended, run, stepsOf, startLines, walked, course, paperWalk, done, outsOf, temperaturesOf, restsOf, looksOf, Walks}
 use Rattle.walk.specs.Lists.{laid}
@@ -117,6 +119,11 @@ module _ {s : List ℕ} (ok : Accepted s) where
   unfolding eqZ rowsH column airH reading between airHeat looks halving halvings
   second-looks = ap (λ (f : ℕ → ℤ). looks f (pos 478802400000)) (air-alone s 1)
 
+-- an answer that refuses a walk as a whole: at its start, or stopped with no step done
+pub data RefusesAll : WalkAnswer → Type 0 where
+  at-start : (r : Refusal) → RefusesAll (Refused r)
+  at-once : (n : ℕ) (ch : Charge) (mk : Millikelvin) → RefusesAll (Stopped 0 n ch mk)
+
 -- the numbers of the printed walk
 abbrev pub printedSteps : List ℤ
 printedSteps = pos 0 ∷ pos 0 ∷ pos 0 ∷ pos 1200000001 ∷ pos 0 ∷ pos 0 ∷ pos 0 ∷ pos 2400000 ∷ []
@@ -148,9 +155,11 @@ module _ {s : List ℕ} (ok : Accepted s) (t r : List ℤ) (l : List ℕ) (ft : 
   }
 
   -- ---- the fakes: no outcome of their kind meets the promise here
-  pub no-refusing-all : (r′ : Refusal) (t′ q′ : List ℤ) (l′ : List ℕ) → Walks told t r l (Refused r′) t′ q′ l′ → ⊥
-  no-refusing-all (Plain n) t′ q′ l′ w = let e = printed-walk (Refused (Plain n)) t′ q′ l′ w .answer in let z : _≡_ {A = ℕ} 0 1 = cc in omega arith
-  no-refusing-all (AtRow n i) t′ q′ l′ w = let e = printed-walk (Refused (AtRow n i)) t′ q′ l′ w .answer in let z : _≡_ {A = ℕ} 0 1 = cc in omega arith
+  -- it refuses everything: the start, with whatever number, or the first step
+  pub no-refusing-all : (a : WalkAnswer) → RefusesAll a → (t′ r′ : List ℤ) (l′ : List ℕ) → Walks told t r l a t′ r′ l′ → ⊥
+  no-refusing-all a (at-start (Plain n)) t′ r′ l′ w = let e = printed-walk (Refused (Plain n)) t′ r′ l′ w .answer in let z : _≡_ {A = ℕ} 0 1 = cc in omega arith
+  no-refusing-all a (at-start (AtRow n i)) t′ r′ l′ w = let e = printed-walk (Refused (AtRow n i)) t′ r′ l′ w .answer in let z : _≡_ {A = ℕ} 0 1 = cc in omega arith
+  no-refusing-all a (at-once n ch mk) t′ r′ l′ w = let e = printed-walk (Stopped 0 n ch mk) t′ r′ l′ w .answer in let z : _≡_ {A = ℕ} 0 1 = cc in omega arith
 
   first-temperature : (a : WalkAnswer) (x : ℤ) (t′ r′ : List ℤ) (l′ : List ℕ) → Walks told t r l a (x ∷ t′) r′ l′ → x ≡ pos 200500
   first-temperature a x t′ r′ l′ w = let e = printed-walk a (x ∷ t′) r′ l′ w .temperatures in cc
@@ -169,11 +178,12 @@ pub no-writing-nothing : {s : List ℕ} (ok : Accepted s) (a : WalkAnswer) (r r�
 no-writing-nothing ok a r r′ l l′ fr fl w =
     let e = ap up (first-temperature ok (pos 0 ∷ pos 0 ∷ []) r l (lit≤ tt) fr fl a (pos 0) (pos 0 ∷ []) r′ l′ w) in omega arith
 
--- it invents a number of looks: the eleventh place of the first step would hold one
-pub no-invented-looks : {s : List ℕ} (ok : Accepted s) (a : WalkAnswer) (t r t′ r′ : List ℤ) (l l′ : List ℕ) (x : ℕ) (ft : 2 ≤ length t) (fr : 2 ≤ length r) (fl : 22 ≤ length l)
-    → Walks (walked (sheetLines s) document01 s (charge 1 0 0) (pos 200000) printedSteps (length t) (length r) (length l)) t r l a t′ r′ l′ → getD l′ 10 x ≡ 0
+-- it invents a number of looks: whatever the first eleven places would hold other than the ten looks and a 0
+pub no-invented-looks : {s : List ℕ} (ok : Accepted s) (a : WalkAnswer) (t r t′ r′ : List ℤ) (l l′ : List ℕ) (ft : 2 ≤ length t) (fr : 2 ≤ length r) (fl : 22 ≤ length l)
+    → Walks (walked (sheetLines s) document01 s (charge 1 0 0) (pos 200000) printedSteps (length t) (length r) (length l)) t r l a t′ r′ l′
+    → (places : List ℕ) → (places ≡ tenLooks ok ++ 0 ∷ [] → ⊥) → take 11 l′ ≡ places → ⊥
 unfolding eleven
-no-invented-looks ok a t r t′ r′ l l′ x ft fr fl w = ap (λ (y : List ℕ). getD y 10 x) (printed-walk ok t r l ft fr fl a t′ r′ l′ w .looks-are)
+no-invented-looks ok a t r t′ r′ l l′ ft fr fl w places other e = other (sym e ∙ ap (take 11) (printed-walk ok t r l ft fr fl a t′ r′ l′ w .looks-are))
 
 -- ---- the ledger of the printed walk: 1 more than is held at the end
 pub printed-ledger : {s : List ℕ} → Accepted s → ledger document01 s (record { gas = one; mk = 200000 }) (plainHeat 1200000001 ∷ plainHeat 2400000 ∷ [])

@@ -8,4 +8,5 @@ pub mod LedgerLaws
 pub mod Demand3
 pub mod Demand3Laws
 pub mod OneOutcome
+pub mod Demand1Laws
 pub mod Examples

@@ -1,7 +1,7 @@
 -- One step of a walk (document 01, "The walk"): what it asks, and how it is judged. A step is four signed numbers: carbon added, hydrogen added, calorific value in
 -- hundredths of C.H.U./lb, plain heat q. Heats are gas heats, temperatures mK.
 use mathlib.Core.Bool.{Bool, not, _||_}
-use mathlib.Core.List.{List, [], _∷_}
+use mathlib.Core.List.{List, [], _∷_, _++_}
 use Prim.Native.Nat.{ℕ, _*_}
 use lib.IntN.{ℤ, pos, negℤ, _+ℤ_, _*ℤ_}
 use lib.Signed.{ltZ}
@@ -85,3 +85,8 @@ sought w s a = first (unreached (gasHeat w s (a .gas)) (a .target)) (outOf w s a
 -- a step judged: 4, 7, 5, then 8 or 9
 unfoldable pub judge : Weights → List ℕ → State → Step → Told Out
 judge w s st p = andThen (asked w s (held w s st) (st .gas) p) (sought w s)
+
+-- the refusals of a step as one order: 4, 7, 5, 8 or 9
+abbrev pub stepOrder : Weights → List ℕ → State → Step → List Line
+stepOrder w s st p =
+    askLines w (st .gas) p ++ unreached (gasHeat w s (newGas (st .gas) p)) (askedOf w s (held w s st) (st .gas) p .target)

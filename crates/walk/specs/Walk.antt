@@ -3,12 +3,12 @@
 use mathlib.Core.Bool.{Bool, not, _||_}
 use mathlib.Core.List.{List, [], _∷_, _++_, map}
 use mathlib.Core.Path.{_≡_}
-use Prim.Native.Nat.{ℕ, zero, suc, _*_, _/_, _%_}
+use Prim.Native.Nat.{ℕ, zero, suc, _*_, _/_, _%_, _<_}
 use lib.Dec.{ltb, eqb}
 use lib.IntN.{ℤ, pos}
-use lib.ListN.{length, getD, drop}
+use lib.ListN.{length, getD, take, drop}
 use Rattle.signed.specs.Zed.{up}
-use Rattle.air.specs.Refusals.{Told, gives, refuses, refusesRow, refused, Line, _when_, first}
+use Rattle.air.specs.Refusals.{Told, gives, refuses, refusesRow, refused, Line, _when_, first, lineNumber, First}
 use Rattle.air.specs.Halving.{eleven}
 use Rattle.gas.specs.declared.Charge.{Charge}
 use Rattle.gas.specs.declared.Gas.{Gas}
@@ -18,7 +18,7 @@ use Rattle.walk.specs.declared.WalkAnswer.{WalkAnswer}
 use Rattle.walk.specs.declared.WalkAnswer.the-variants.{Done, Stopped, Refused}
 use Rattle.walk.specs.Lists.{laid}
 use Rattle.walk.specs.declared.Step.{Step}
-use Rattle.walk.specs.Step.{State, Out, judge}
+use Rattle.walk.specs.Step.{State, Out, judge, stepOrder}
 
 -- each step is four signed 64-bit numbers; walks of up to 64 steps
 abbrev pub width : ℕ
@@ -58,6 +58,23 @@ onward st (refusesRow n r) k = record { outs = []; end = cut n st }
 unfoldable pub run : Weights → List ℕ → State → List Step → Trace
 run w s st [] = record { outs = []; end = ended st }
 run w s st (p ∷ ps) = onward st (judge w s st p) (λ q. run w s q ps)
+
+-- ---- where it stops
+abbrev pub noStep : Step
+noStep = record { carbon = pos 0; hydrogen = pos 0; value = pos 0; heat = pos 0 }
+
+-- i steps were done, and step i was refused with n where the walk stood at q
+pub record StoppedAt (w : Weights) (s : List ℕ) (st : State) (ps : List Step) (i n : ℕ) (q : State) : Type 0 where
+  pub done-before : length (run w s st ps .outs) ≡ i
+  pub cut-there : run w s st ps .end ≡ cut n q
+
+-- the steps before step i are accepted and lead to q, and n is the number of the first line of step i that holds there
+pub record FirstRefused (w : Weights) (s : List ℕ) (st : State) (ps : List Step) (i n : ℕ) (q : State) : Type 0 where
+  pub among : i < length ps
+  pub accepted : run w s st (take i ps) .end ≡ ended q
+  pub line : Line
+  pub first-line : First (stepOrder w s q (getD ps i noStep)) line
+  pub number-is : lineNumber line ≡ n
 
 -- ---- the start
 -- 13: steps list not a multiple of four long, or over 256

@@ -15,7 +15,7 @@ tell-mark-requires : tie.Need-tell-mark-requires
 tell-mark-requires c κs = search needs
 
 returns : tie.Need-returns
-returns c = let s = c .before .before .before in c .tell-mark .ensures ∙ ap flatMark (rw (back (s .fits .key), back (s .fits .window), c .before .before .typed-of .ensures) at (c .before .mark .ensures))
+returns c = let s = c .before .before .before in rw (← back (s .fits .key), ← back (s .fits .window), ← c .before .before .typed-of .ensures) (c .tell-mark .ensures ∙ ap flatMark (c .before .mark .ensures))
 
 pub gaskeys-mark-spec : {M : Type 1} → statement M
 gaskeys-mark-spec = tie.close (tie.spec typed-of-requires mark-requires tell-mark-requires returns)

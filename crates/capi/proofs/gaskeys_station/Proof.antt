@@ -12,7 +12,7 @@ tell-station-requires : tie.Need-tell-station-requires
 tell-station-requires c κs = search needs
 
 returns : tie.Need-returns
-returns c = let s = c .before .before .before in c .tell-station .ensures ∙ ap flatStation (rw (back (s .fits .air), back (s .fits .carbon), back (s .fits .hydrogen), back (s .fits .millikelvin)) at (c .before .station .ensures))
+returns c = let s = c .before .before .before in rw (← back (s .fits .air), ← back (s .fits .carbon), ← back (s .fits .hydrogen), ← back (s .fits .millikelvin)) (c .tell-station .ensures ∙ ap flatStation (c .before .station .ensures))
 
 pub gaskeys-station-spec : {M : Type 1} → statement M
 gaskeys-station-spec = tie.close (tie.spec station-requires tell-station-requires returns)

@@ -14,7 +14,7 @@ same-length : tie.Need-same-length
 same-length c = search needs
 
 returns : tie.Need-returns
-returns c = let s = c .before .before .before .before .before .before .before in temperature-told (rw (back (s .fits .air), back (s .fits .carbon), back (s .fits .hydrogen), back (s .fits .target)) at (c .before .before .before .temperature .ensures)) (c .tell-temperature .ensures)
+returns c = let s = c .before .before .before .before .before .before .before in rw (← back (s .fits .air), ← back (s .fits .carbon), ← back (s .fits .hydrogen), ← back (s .fits .target)) (temperature-told (c .before .before .before .temperature .ensures) (c .tell-temperature .ensures))
 
 pub gaskeys-temperature-spec : {M : Type 1} → statement M
 gaskeys-temperature-spec =

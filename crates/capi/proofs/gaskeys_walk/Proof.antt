@@ -20,7 +20,7 @@ same-length-3 : tie.Need-same-length-3
 same-length-3 c = search needs
 
 returns : tie.Need-returns
-returns c = let s = c .before .before .before .before .before .before .before .before .before .before .before in walk-told (rw (back (s .fits .air), back (s .fits .carbon), back (s .fits .hydrogen), back (s .fits .millikelvin)) at (c .before .before .before .before .before .walk .ensures)) (c .tell-walk .ensures)
+returns c = let s = c .before .before .before .before .before .before .before .before .before .before .before in rw (← back (s .fits .air), ← back (s .fits .carbon), ← back (s .fits .hydrogen), ← back (s .fits .millikelvin)) (walk-told (c .before .before .before .before .before .walk .ensures) (c .tell-walk .ensures))
 
 pub gaskeys-walk-spec : {M : Type 1} → statement M
 gaskeys-walk-spec =

@@ -1,9 +1,9 @@
-use lib.ListN.{length}
+use borrow.Author.Needs.{needs}
 use mathlib.Core.Path.{_≡_}
 use Prim.Native.Nat.{_-_}
-use borrow.Author.Needs.{needs}
-use lib.ListN.{length-take}
+use lib.ListN.{length, length-take}
 use native.Mathlib.Omega.{arith}
+use Rattle.stream.specs.WritingLaws.{turns-most}
 use Rattle.trials.proofs.answer_input.Statement.{statement}
 use Rattle.trials.proofs.answer_input.Tie as tie
 
@@ -37,8 +37,11 @@ slice-aggregate-answer-piece c = simp length-take (omega arith)
 answer-piece-requires : tie.Need-answer-piece-requires Inv-loop μ-loop
 answer-piece-requires c κs = search needs
 
+turns-left-requires : tie.Need-turns-left-requires Inv-loop μ-loop
+turns-left-requires c κs = search needs
+
 loop-less-2 : tie.Need-loop-less-2 Inv-loop μ-loop
-loop-less-2 c = search needs
+loop-less-2 c = omega (arith, c .turns-left .ensures, turns-most (c .before .before .before .before .before .before .before .before .before .before .before .before .before .before .before .before .before .before .before .loop .turns - 1) (c .before .before .before .before .before .before .before .before .answer-piece .result .desk .output))
 
 loop-again-2 : tie.Need-loop-again-2 Inv-loop μ-loop
 loop-again-2 c = search needs
@@ -75,6 +78,7 @@ answer-input-spec =
     slice-reshare-prefix-answer-piece
     slice-aggregate-answer-piece
     answer-piece-requires
+    turns-left-requires
     loop-less-2
     loop-again-2
     answer-last-requires

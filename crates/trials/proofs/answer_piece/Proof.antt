@@ -1,8 +1,8 @@
-use lib.ListN.{length}
-use native.Mathlib.Omega.{arith}
+use borrow.Author.Needs.{needs}
 use mathlib.Core.Path.{_≡_}
 use Prim.Native.Nat.{_-_}
-use borrow.Author.Needs.{needs}
+use lib.ListN.{length}
+use native.Mathlib.Omega.{arith}
 use Rattle.stream.specs.TakingLaws.{goes-on}
 use Rattle.trials.proofs.answer_piece.Statement.{statement}
 use Rattle.trials.proofs.answer_piece.Tie as tie

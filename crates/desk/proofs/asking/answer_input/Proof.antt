@@ -1,20 +1,23 @@
-use Rattle.stream.specs.Taking.{Inside}
-use Rattle.stream.specs.declared.Got.{Got}
+use Prim.Native.Nat.{_≤_}
+use Rattle.stream.specs.WritingLaws.{turns-most}
 use lib.ListN.{length-take}
-use mathlib.Core.Path.{subst}
+use Rattle.stream.specs.declared.Got.{Got}
+use Rattle.stream.specs.Taking.{Inside}
 use native.Mathlib.Omega.{arith}
-use lib.ListN.{length}
-use mathlib.Core.Path.{_≡_}
-use Prim.Native.Nat.{_-_, _≤_}
+use mathlib.Core.Path.{subst}
 use borrow.Author.Needs.{needs}
+use mathlib.Core.Path.{_≡_}
+use Prim.Native.Nat.{_-_}
+use lib.ListN.{length}
+use Rattle.stream.specs.Writing.{Free}
 use Rattle.desk.proofs.asking.answer_input.Statement.{statement}
 use Rattle.desk.proofs.asking.answer_input.Tie as tie
 
 abbrev Inv-loop : tie.InvT-loop
-Inv-loop verdict sheet piece₀ line₀ out₀ held₀ turns₀ t9 piece line out held turns = (length line ≡ length line₀) × (length out ≡ length out₀) × (length piece ≡ length piece₀)
+Inv-loop verdict sheet piece₀ line₀ out₀ turn₀ turns₀ t11 piece line out turn turns = (length line ≡ length line₀) × (length out ≡ length out₀) × (length piece ≡ length piece₀) × Free (turn .output) out
 
 abbrev μ-loop : tie.MeasureT-loop
-μ-loop verdict sheet piece₀ line₀ out₀ held₀ turns₀ t9 piece line out held turns = turns
+μ-loop verdict sheet piece₀ line₀ out₀ turn₀ turns₀ t11 piece line out turn turns = turns
 
 loop-holds : tie.Need-loop-holds Inv-loop μ-loop
 loop-holds c = search needs
@@ -40,17 +43,17 @@ slice-aggregate-answer-piece c = let h : c .before .before .n .given .0 .0 ≤ l
 answer-piece-requires : tie.Need-answer-piece-requires Inv-loop μ-loop
 answer-piece-requires c κs = search needs
 
+turns-left-requires : tie.Need-turns-left-requires Inv-loop μ-loop
+turns-left-requires c κs = search needs
+
 loop-less : tie.Need-loop-less Inv-loop μ-loop
-loop-less c = search needs
+loop-less c = omega (arith, c .turns-left .ensures, turns-most (c .before .before .before .before .before .before .before .before .before .before .before .before .before .before .before .before .before .before .loop .turns - 1) (c .before .before .before .before .before .answer-piece .result .output))
 
 loop-again : tie.Need-loop-again Inv-loop μ-loop
-loop-again c = search needs
+loop-again c = (search needs, search needs, search needs, c .before .before .before .before .before .answer-piece .ensures .free)
 
 enum-told : tie.Need-enum-told Inv-loop μ-loop
 enum-told c = search needs
-
-answer-last-requires : tie.Need-answer-last-requires Inv-loop μ-loop
-answer-last-requires c κs = search needs
 
 loop-less-2 : tie.Need-loop-less-2 Inv-loop μ-loop
 loop-less-2 c = search needs
@@ -93,10 +96,10 @@ answer-input-spec =
     slice-reshare-prefix-answer-piece
     slice-aggregate-answer-piece
     answer-piece-requires
+    turns-left-requires
     loop-less
     loop-again
     enum-told
-    answer-last-requires
     loop-less-2
     loop-again-2
     enum-told-2

@@ -1,20 +1,23 @@
-use native.Mathlib.Omega.{arith}
-use lib.ListN.{length}
-use mathlib.Core.Path.{_≡_}
-use Prim.Native.Nat.{_/_, _-_, _≤_}
-use borrow.Author.Needs.{needs}
+use Rattle.stream.specs.WritingLaws.{leaves-same, leaves-on, flushed-leaves}
 use Rattle.stream.specs.TakingLaws.{goes-on}
+use native.Mathlib.Omega.{arith}
+use mathlib.Core.Path.{refl}
+use borrow.Author.Needs.{needs}
+use mathlib.Core.Path.{_≡_}
+use Prim.Native.Nat.{_-_}
+use lib.ListN.{length}
+use Rattle.stream.specs.Writing.{Leaves}
 use Rattle.desk.proofs.asking.answer_piece.Statement.{statement}
 use Rattle.desk.proofs.asking.answer_piece.Tie as tie
 
 abbrev Inv-loop : tie.InvT-loop
-Inv-loop piece verdict sheet line₀ out₀ held₀ at₀ from₀ line out held at from = (length line ≡ length line₀) × (length out ≡ length out₀) × (at ≤ length out / 2)
+Inv-loop piece verdict sheet line₀ out₀ held₀ output₀ from₀ line out held output from = (length line ≡ length line₀) × (length out ≡ length out₀) × Leaves output₀ out₀ output out
 
 abbrev μ-loop : tie.MeasureT-loop
-μ-loop piece verdict sheet line₀ out₀ held₀ at₀ from₀ line out held at from = length piece - from
+μ-loop piece verdict sheet line₀ out₀ held₀ output₀ from₀ line out held output from = length piece - from
 
 loop-holds : tie.Need-loop-holds Inv-loop μ-loop
-loop-holds c = search needs
+loop-holds c = (refl, refl, leaves-same (c .before .before .before .before .args .turn .output) (c .before .before .before .before .args .out .now) (c .before .before .before .before .pre .2))
 
 take-line-requires : tie.Need-take-line-requires Inv-loop μ-loop
 take-line-requires c κs = search needs
@@ -26,7 +29,7 @@ loop-less : tie.Need-loop-less Inv-loop μ-loop
 loop-less c = omega (arith, goes-on (c .before .before .before .before .before .before .before .before .take-line .ensures) (c .before .before .before .before .before .before .before .before .before .before .loop-test .taken))
 
 loop-again : tie.Need-loop-again Inv-loop μ-loop
-loop-again c = search needs
+loop-again c = (search needs, search needs, leaves-on (c .before .before .before .before .before .before .before .before .before .before .before .loop .inv .2) (c .before .before .answer-held .ensures))
 
 loop-less-2 : tie.Need-loop-less-2 Inv-loop μ-loop
 loop-less-2 c = omega (arith, goes-on (c .before .before .before .take-line .ensures) (c .before .before .before .before .before .loop-test .taken))
@@ -44,7 +47,7 @@ same-length-2 : tie.Need-same-length-2 Inv-loop μ-loop
 same-length-2 c = search needs
 
 returns : tie.Need-returns Inv-loop μ-loop
-returns c = search needs
+returns c = leaves-on (c .before .before .before .loop .inv .2) (flushed-leaves (c .before .before .before .loop .output) (c .flush .result) (c .before .before .before .loop .out) (c .flush .ensures))
 
 pub answer-piece-spec : {M : Type 1} → statement M
 answer-piece-spec =

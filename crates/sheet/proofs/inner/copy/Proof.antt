@@ -5,8 +5,8 @@ use Prim.Native.Nat.{ℕ, _≤_, _-_}
 use native.Mathlib.Omega.{arith}
 use lib.ListN.{length, take, drop, set, getD, length-set}
 use Rattle.sheet.proofs.Copied.{copy-more, copy-whole}
-use Rattle.sheet.proofs.machine.copy.Statement.{statement}
-use Rattle.sheet.proofs.machine.copy.Tie as tie
+use Rattle.sheet.proofs.inner.copy.Statement.{statement}
+use Rattle.sheet.proofs.inner.copy.Tie as tie
 
 abbrev Inv-loop : tie.InvT-loop
 Inv-loop numbers list₀ i₀ list i = (i ≤ 5403) × (list ≡ take i numbers ++ drop i list₀) × (length list ≡ length list₀)

@@ -1,0 +1,24 @@
+use borrow.Author.Needs.{needs}
+use mathlib.Core.Path.{_∙_}
+use Rattle.capi.proofs.Promised.{built-in-refused, built-in-told}
+use Rattle.capi.proofs.gaskeys_built_in_sheet.Statement.{statement}
+use Rattle.capi.proofs.gaskeys_built_in_sheet.Tie as tie
+
+returns : tie.Need-returns
+returns c = built-in-refused (c .before .before .args .list .now) (c .if1 .taken)
+
+sheet-requires : tie.Need-sheet-requires
+sheet-requires c κs = search needs
+
+copy-requires : tie.Need-copy-requires
+copy-requires c κs = search needs
+
+same-length : tie.Need-same-length
+same-length c = search needs
+
+returns-2 : tie.Need-returns-2
+returns-2 c = built-in-told (c .before .before .before .before .before .before .before .before .args .list .now) (c .before .before .before .before .before .before .if1 .left) (c .before .before .copy .ensures ∙ c .before .before .before .before .before .sheet .ensures)
+
+pub gaskeys-built-in-sheet-spec : {M : Type 1} → statement M
+gaskeys-built-in-sheet-spec =
+    tie.close (tie.spec returns sheet-requires copy-requires same-length returns-2)

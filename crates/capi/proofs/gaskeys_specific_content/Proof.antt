@@ -1,0 +1,18 @@
+use borrow.Author.Needs.{needs}
+use mathlib.Core.Path.{_∙_, ap}
+use Rattle.signed.specs.Zed.{back}
+use Rattle.capi.specs.Flat.{flatHeat}
+use Rattle.capi.proofs.gaskeys_specific_content.Statement.{statement}
+use Rattle.capi.proofs.gaskeys_specific_content.Tie as tie
+
+specific-content-requires : tie.Need-specific-content-requires
+specific-content-requires c κs = search needs
+
+tell-specific-requires : tie.Need-tell-specific-requires
+tell-specific-requires c κs = search needs
+
+returns : tie.Need-returns
+returns c = let s = c .before .before .before in rw (← back (s .fits .air), ← back (s .fits .carbon), ← back (s .fits .hydrogen), ← back (s .fits .millikelvin)) (c .tell-specific .ensures ∙ ap flatHeat (c .before .specific-content .ensures))
+
+pub gaskeys-specific-content-spec : {M : Type 1} → statement M
+gaskeys-specific-content-spec = tie.close (tie.spec specific-content-requires tell-specific-requires returns)

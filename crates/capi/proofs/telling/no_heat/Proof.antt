@@ -1,0 +1,16 @@
+use borrow.Author.Needs.{needs}
+use Rattle.capi.proofs.Structs.{heat-refused}
+use Rattle.capi.proofs.telling.no_heat.Statement.{statement}
+use Rattle.capi.proofs.telling.no_heat.Tie as tie
+
+number-of-requires : tie.Need-number-of-requires
+number-of-requires c κs = search needs
+
+row-of-requires : tie.Need-row-of-requires
+row-of-requires c κs = search needs
+
+returns : tie.Need-returns
+returns c = heat-refused (c .before .before .args .r) (c .before .number-of .ensures) (c .row-of .ensures)
+
+pub no-heat-spec : {M : Type 1} → statement M
+no-heat-spec = tie.close (tie.spec number-of-requires row-of-requires returns)

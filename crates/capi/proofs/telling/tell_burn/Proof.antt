@@ -1,0 +1,37 @@
+use borrow.Author.Needs.{needs}
+use mathlib.Core.Path.{_∙_, sym, ap}
+use Rattle.gas.specs.declared.BurnAnswer.{BurnAnswer}
+use Rattle.gas.specs.Answers.{paperBurn}
+use Rattle.capi.specs.Flat.{flatBurn}
+use Rattle.capi.proofs.Structs.{burn-refused}
+use Rattle.capi.proofs.telling.tell_burn.Statement.{statement}
+use Rattle.capi.proofs.telling.tell_burn.Tie as tie
+
+enum-known-answer : tie.Need-enum-known-answer
+enum-known-answer c = search needs
+
+enum-known-answer-2 : tie.Need-enum-known-answer-2
+enum-known-answer-2 c = search needs
+
+number-of-requires : tie.Need-number-of-requires
+number-of-requires c κs = search needs
+
+row-of-requires : tie.Need-row-of-requires
+row-of-requires c κs = search needs
+
+returns : tie.Need-returns
+returns c = sym (ap (λ (a : BurnAnswer). flatBurn (paperBurn a)) (c .before .answer .given .1))
+
+returns-2 : tie.Need-returns-2
+returns-2 c = burn-refused (c .before .before .before .answer2 .given .0 .0) (c .before .number-of .ensures) (c .row-of .ensures) ∙ sym (ap (λ (a : BurnAnswer). flatBurn (paperBurn a)) (c .before .before .before .answer2 .given .1))
+
+pub tell-burn-spec : {M : Type 1} → statement M
+tell-burn-spec =
+    tie.close
+    (tie.spec
+    enum-known-answer
+    enum-known-answer-2
+    number-of-requires
+    row-of-requires
+    returns
+    returns-2)

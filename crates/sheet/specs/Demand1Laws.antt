@@ -1,0 +1,17 @@
+-- Demand 1 for each entry on a sheet, both ways: `demand-1-NAME`, of every answer that meets the promise of NAME. Assumes nothing.
+use mathlib.Core.Path.{_≡_}
+use mathlib.Core.List.{List, [], _∷_}
+use Prim.Native.Nat.{ℕ}
+use Rattle.air.specs.Refusals.{_when_, _on-row_when_, Demand1}
+use Rattle.air.specs.RefusalsLaws.{demand-1}
+use Rattle.sheet.specs.declared.SheetAnswer.{SheetAnswer}
+use Rattle.sheet.specs.Sheet.{notLong}
+use Rattle.sheet.specs.Answers.{paper, breaks, badRowOf, SheetRead, sheetLines, judgeTold}
+
+-- the text's own form: whether it breaks its form, and its first bad row
+pub demand-1-read_sheet : {text before later : List ℕ} {a : SheetAnswer} (h : SheetRead text before a later)
+    → Demand1 (1 when notLong before ∷ 2 on-row badRowOf (h .form) when breaks (h .form) ∷ []) tt (paper a)
+demand-1-read_sheet h = demand-1 _ _ (h .told)
+
+pub demand-1-judge_sheet : (s : List ℕ) (a : SheetAnswer) → paper a ≡ judgeTold s → Demand1 (sheetLines s) tt (paper a)
+demand-1-judge_sheet s a e = demand-1 _ _ e
