@@ -76,6 +76,11 @@ fn output(dir: &Path, program: &Program) -> Result<(String, String), String> {
     Ok((path("stdout"), printed_for(&program.form, stored, &sheet)?))
 }
 
+/// The lines of a text, each ended by one line feed; a carriage return before it is the line's.
+fn lines_of(text: &str) -> impl Iterator<Item = &str> {
+    text.split_terminator('\n')
+}
+
 /// What a form prints to the text that its file has.
 fn printed_for(
     form: &Form,
@@ -83,7 +88,7 @@ fn printed_for(
     sheet: &Result<Vec<u32>, Refusal>,
 ) -> Result<String, String> {
     Ok(match form {
-        Form::Ask(file) => stored(file)?.lines().map(|line| answered(line, sheet)).collect(),
+        Form::Ask(file) => lines_of(&stored(file)?).map(|line| answered(line, sheet)).collect(),
         Form::Walk(file) => page(&stored(file)?, sheet),
         Form::Sheet(file) => verdict(&read(&stored(file)?)),
     })
@@ -103,7 +108,7 @@ fn answered(line: &str, sheet: &Result<Vec<u32>, Refusal>) -> String {
 
 /// The printed walk of a question: A, c, h, mK in the first line, a step in each further one.
 fn page(question: &str, sheet: &Result<Vec<u32>, Refusal>) -> String {
-    let lines = question.lines().map(|line| line.split('\t').collect::<Vec<&str>>());
+    let lines = lines_of(question).map(|line| line.split('\t').collect::<Vec<&str>>());
     let rows: Vec<Vec<i64>> = lines.map(|line| numbers(&line).expect("four numbers")).collect();
     let [air, carbon, hydrogen, mk] = rows[0][..] else { panic!("A, c, h, mK") };
     let start = State { charge: Charge { air, carbon, hydrogen }, mk };
