@@ -2,10 +2,7 @@
 
 use crate::inverse::{self, Found};
 use crate::refusal::{refuse_if, Refusal};
-use crate::table::{table, FIRST, LAST};
-
-pub const COLDEST: i64 = 200_000;
-pub const HOTTEST: i64 = 2_000_000;
+use crate::table::{table, COLDEST, FIRST, HOTTEST, LAST};
 
 /// Heat per pound at a temperature in mK, in 0.00001 C.H.U.
 pub fn heat(mk: i64) -> Result<i64, Refusal> {

@@ -3,8 +3,8 @@
 //! The temperature is found by its definition, over thousandths of a kelvin; the looks are
 //! found beside it by the halving rule, over whole kelvins. Neither is used for the other.
 
-use crate::air::{COLDEST, HOTTEST};
 use crate::refusal::{refuse_if, Refusal};
+use crate::table::{COLDEST, HOTTEST};
 
 /// Places of looks that an answer has in a lent list.
 pub const PLACES: usize = 11;

@@ -6,6 +6,9 @@ use std::sync::OnceLock;
 
 pub const FIRST: i64 = 200;
 pub const LAST: i64 = 2000;
+/// The ends of the range in mK.
+pub const COLDEST: i64 = 1000 * FIRST;
+pub const HOTTEST: i64 = 1000 * LAST;
 /// H − H15, exactly, in every row.
 const BETWEEN_HEATS: i64 = 6887;
 
