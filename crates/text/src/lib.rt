@@ -10,7 +10,7 @@ ghost use Rattle.text.specs.Reading.{isDigit, mayFollow, extended, stepD
 ghost use Rattle.text.specs.Put.{Put};
 
 // What the digits of a text say so far.
-pub enum Digits {
+enum Digits {
     Empty,
     Value(u64),
     Bad,
@@ -56,7 +56,7 @@ fn extend(limit: u64, seen: bool, v: u64, d: u8) -> Digits
 }
 
 // The digits with one byte more.
-pub fn step_digits(limit: u64, s: Digits, b: u8) -> Digits
+fn step_digits(limit: u64, s: Digits, b: u8) -> Digits
     ensures { λ r. ⌜ r ≡ stepDigits limit s b ⌝ }
 {
     if !is_digit(b) {
@@ -70,7 +70,7 @@ pub fn step_digits(limit: u64, s: Digits, b: u8) -> Digits
 }
 
 // The number of a text that is digits only, with no zero in front, up to the limit.
-pub fn read_digits(limit: u64, text: &[u8]) -> Digits
+fn read_digits(limit: u64, text: &[u8]) -> Digits
     ensures { λ r. ⌜ r ≡ digitsOf limit (now (text .entry)) ⌝ }
 {
     let mut s = Digits::Empty;
