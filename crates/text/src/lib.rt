@@ -10,7 +10,7 @@ ghost use Rattle.text.specs.Reading.{isDigit, mayFollow, extended, stepD
 ghost use Rattle.text.specs.Put.{Put};
 
 // What the digits of a text say so far.
-pub enum Digits {
+enum Digits {
     Empty,
     Value(u64),
     Bad,
