@@ -5,13 +5,12 @@ use mathlib.Core.Bool.{Bool, false, cond}
 use lib.IntN.{ℤ, pos}
 use lib.Ieee.{binary64, ofBits}
 use Rattle.signed.specs.Zed.{up}
-use Rattle.air.specs.declared.Refusal.{Refusal}
-use Rattle.air.specs.declared.Refusal.the-variants.{Plain, AtRow}
-use Rattle.air.specs.Refusals.{Told, refused}
+use Rattle.refusal.specs.declared.Refusal.{Refusal}
+use Rattle.refusal.specs.Refusals.{refused, numberOf}
 use Rattle.air.specs.Inverse.{Found}
 use Rattle.gas.specs.declared.Products.{Products}
 use Rattle.marking.specs.declared.StationFigure.{StationFigure}
-use Rattle.capi.specs.Flat.{number, row, valuesOr, numberIn, rowIn, notBurnt, notFound, noFigures, flatUnbegun, flatSheet, flatReading, flatBurn, flatHeat, flatTemperature, flatPsi, flatWalk, flatStation, flatMark}
+use Rattle.capi.specs.Flat.{number, row, valuesOr, rowIn, notBurnt, notFound, noFigures, flatUnbegun, flatSheet, flatReading, flatBurn, flatHeat, flatTemperature, flatPsi, flatWalk, flatStation, flatMark}
 use Rattle.capi.specs.declared.SheetTold.{SheetTold}
 use Rattle.capi.specs.declared.ReadingTold.{ReadingTold}
 use Rattle.capi.specs.declared.BurnTold.{BurnTold}
@@ -34,11 +33,10 @@ psi-found e = rw e refl
 
 -- ---- refusals: one law for any struct of a number, a row and values
 module _ {A S : Type 0} (make : ℕ → ℕ → A → S) (none : A) where
-  flat-refused : (r : Refusal) {n k : ℕ} → n ≡ numberIn r → k ≡ rowIn r → make n k none ≡ make (number {A = A} (refused r)) (row {A = A} (refused r)) (valuesOr none (refused r))
-  flat-refused (Plain n) e f = rw (e, f) refl
-  flat-refused (AtRow n k) e f = rw (e, f) refl
+  flat-refused : (r : Refusal) {n k : ℕ} → n ≡ numberOf r → k ≡ rowIn r → make n k none ≡ make (number {A = A} (refused r)) (row {A = A} (refused r)) (valuesOr none (refused r))
+  flat-refused r e f = rw (e, f) refl
 
-module _ (r : Refusal) {n k : ℕ} (e : n ≡ numberIn r) (f : k ≡ rowIn r) where
+module _ (r : Refusal) {n k : ℕ} (e : n ≡ numberOf r) (f : k ≡ rowIn r) where
   pub sheet-refused : _≡_ {A = SheetTold} (record { refusal = n; row = k }) (flatSheet (refused r))
   sheet-refused = flat-refused {A = Unit {0}} {S = SheetTold} (λ n k a. record { refusal = n; row = k }) tt r e f
 
@@ -64,6 +62,5 @@ module _ (r : Refusal) {n k : ℕ} (e : n ≡ numberIn r) (f : k ≡ rowIn r) wh
   mark-refused = flat-refused {A = Bool} {S = MarkTold} (λ n k a. record { refusal = n; row = k; counts = cond a 1 0 }) false r e f
 
 -- a walk that did not begin
-pub walk-refused : (r : Refusal) {n k : ℕ} → n ≡ numberIn r → k ≡ rowIn r → flatUnbegun n k ≡ flatWalk (refused r)
-walk-refused (Plain n) e f = rw (e, f) refl
-walk-refused (AtRow n k) e f = rw (e, f) refl
+pub walk-refused : (r : Refusal) {n k : ℕ} → n ≡ numberOf r → k ≡ rowIn r → flatUnbegun n k ≡ flatWalk (refused r)
+walk-refused r e f = rw (e, f) refl

@@ -6,13 +6,13 @@ use mathlib.Core.Logic.{_↔_}
 use mathlib.Core.Path.{_≡_}
 use Prim.Native.Nat.{ℕ, _<_}
 use lib.Dec.{ltb}
-use Rattle.air.specs.Refusals.{Line, _when_, _on-row_when_, lineNumber, First, Clear}
+use Rattle.refusal.specs.Refusals.{Line, refusalOf, lineNumber, First, Clear}
 use Rattle.capi.specs.declared.WalkTold.{WalkTold}
+use Rattle.capi.specs.Flat.{rowIn}
 
 -- the row of a line, 0 where it has none
 abbrev pub lineRow : Line → ℕ
-lineRow (n when c) = 0
-lineRow (n on-row r when c) = r
+lineRow l = rowIn (refusalOf l)
 
 -- no refusal of an order has the number 0, which stands for none
 abbrev pub numbered : List Line → Bool

@@ -11,8 +11,9 @@ use lib.IntN.{ℤ, pos}
 use lib.Ieee.{Float}
 use lib.ListN.{length}
 use Rattle.signed.specs.Zed.{outside}
-use Rattle.air.specs.Refusals.{Told, gives, Line, _when_, _on-row_when_, toldBy, lineNumber, first, First, here, after, Clear}
-use Rattle.air.specs.RefusalsLaws.{by-bool, first-or-clear, refusal-given, values-given}
+use Rattle.refusal.specs.Refusals.{Told, gives, Line, _when_, _at-place_when_, lineNumber, first, First, here, after, Clear}
+use Rattle.refusal.specs.BoolLaws.{by-bool}
+use Rattle.refusal.specs.RefusalsLaws.{first-or-clear, refusal-given, values-given}
 use Rattle.air.specs.Inverse.{unreached}
 use Rattle.air.specs.Answers.{heatTold as airHeatTold, psiTold as airPsiTold, cpTold as airCpTold, psiOrder}
 use Rattle.sheet.specs.Sheet.{notLong}
@@ -38,20 +39,12 @@ use Rattle.capi.specs.Lent.{SheetIs, BuiltInIs, TemperatureIs, PsiIs, Wa
 use Rattle.capi.specs.Demand1.{lineRow, numbered, FlatDemand1, WalkDemand1}
 
 -- ---- once over any order
-line-number : (A : Type 0) (l : Line) → number (toldBy {A = A} l) ≡ lineNumber l
-line-number A (n when c) = refl
-line-number A (n on-row r when c) = refl
-
-line-row : (A : Type 0) (l : Line) → row (toldBy {A = A} l) ≡ lineRow l
-line-row A (n when c) = refl
-line-row A (n on-row r when c) = refl
-
 not-0 : (ls : List Line) {l : Line} → numbered ls ≡ true → First ls l → 0 < lineNumber l
 not-0 (l ∷ ls) e (here h) = by-bool (ltb 0 (lineNumber l)) (λ p. ltb-true 0 (lineNumber l) p) (λ p. absurd (true≢false (sym e ∙ rw p refl)))
 not-0 (m ∷ ls) e (after h f) = by-bool (ltb 0 (lineNumber m)) (λ p. not-0 ls (rw p at e) f) (λ p. absurd (true≢false (sym e ∙ rw p refl)))
 
 flat-demand-1 : {A : Type 0} (order : List Line) (values : A) → numbered order ≡ true → FlatDemand1 order (number (first order values)) (row (first order values))
-flat-demand-1 {A} order values some = record {
+flat-demand-1 order values some = record {
   refused-with = λ n k p. (
     λ e. ⊎-elim
         (λ w. (w .0, w .1, sym (number-of (w .0) (w .1)) ∙ e .0, sym (row-of (w .0) (w .1)) ∙ e .1))
@@ -66,14 +59,14 @@ flat-demand-1 {A} order values some = record {
 }
   where
     number-of : (l : Line) → First order l → number (first order values) ≡ lineNumber l
-    number-of l f = ap number (refusal-given values f) ∙ line-number A l
+    number-of l f = ap number (refusal-given values f)
 
     row-of : (l : Line) → First order l → row (first order values) ≡ lineRow l
-    row-of l f = ap row (refusal-given values f) ∙ line-row A l
+    row-of l f = ap row (refusal-given values f)
 
 -- ---- the sheet
 pub demand-1-gaskeys_read_sheet : {text before later : List ℕ} {r : SheetTold} (h : SheetIs text before r later)
-    → FlatDemand1 (1 when notLong before ∷ 2 on-row badRowOf (h .form) when breaks (h .form) ∷ []) (r .refusal) (r .row)
+    → FlatDemand1 (1 when notLong before ∷ 2 at-place badRowOf (h .form) when breaks (h .form) ∷ []) (r .refusal) (r .row)
 demand-1-gaskeys_read_sheet h = rw (h .told) (flat-demand-1 _ tt refl)
 
 pub demand-1-gaskeys_judge_sheet : (s : List ℕ) (r : SheetTold) → r ≡ flatSheet (judgeTold s) → FlatDemand1 (sheetLines s) (r .refusal) (r .row)
@@ -123,10 +116,6 @@ pub demand-1-gaskeys_mark : (kind : ℕ) (x : Float) (key window : ℤ) (r : Mar
 demand-1-gaskeys_mark kind x key window r e = rw e (flat-demand-1 _ _ refl)
 
 -- ---- the walk
-unbegun : (l : Line) → flatWalk (course (toldBy l)) ≡ flatUnbegun (lineNumber l) (lineRow l)
-unbegun (n when c) = refl
-unbegun (n on-row r when c) = refl
-
 begun : (n : ℕ) (e : End) → flatWalk (gives (courseOf n e)) .begun ≡ 1
 begun n (ended st) = refl
 begun n (cut m st) = refl
@@ -141,7 +130,7 @@ module _ (lines : List Line) (w : Weights) (s : List ℕ) (start : Charge) (from
 
   refused-start : (m : Line) → First order m → o ≡ flatUnbegun (lineNumber m) (lineRow m)
   unfolding walked
-  refused-start m f = h .answer ∙ ap (λ (x : Told Trace). flatWalk (course x)) (refusal-given T f) ∙ unbegun m
+  refused-start m f = h .answer ∙ ap (λ (x : Told Trace). flatWalk (course x)) (refusal-given T f)
 
   begun-start : Clear order → o .begun ≡ 1
   unfolding walked

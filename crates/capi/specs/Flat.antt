@@ -6,9 +6,9 @@ use lib.Dec.{eqb}
 use lib.IntN.{ℤ, pos}
 use lib.Ieee.{Float, binary64, ofBits}
 use Rattle.signed.specs.Zed.{up}
-use Rattle.air.specs.declared.Refusal.{Refusal}
-use Rattle.air.specs.declared.Refusal.the-variants.{Plain, AtRow}
-use Rattle.air.specs.Refusals.{Told, gives, refuses, refusesRow}
+use Rattle.refusal.specs.declared.Refusal.{Refusal}
+use Rattle.refusal.specs.declared.Refusal.the-variants.{Plain, At}
+use Rattle.refusal.specs.Refusals.{Told, gives, refused, numberOf}
 use Rattle.air.specs.Inverse.{Found}
 use Rattle.gas.specs.declared.Charge.{Charge}
 use Rattle.gas.specs.declared.Products.{Products}
@@ -29,29 +29,21 @@ use Rattle.capi.specs.declared.MarkTold.{MarkTold}
 -- 0, or the number of the refusal
 abbrev pub number : {A : Type 0} → Told A → ℕ
 number (gives a) = 0
-number (refuses n) = n
-number (refusesRow n r) = n
+number (refused r) = numberOf r
 
--- the row of the refusal, 0 where there is none
+-- the row of a refusal, 0 where it has none
+abbrev pub rowIn : Refusal → ℕ
+rowIn (Plain n) = 0
+rowIn (At n r) = r
+
 abbrev pub row : {A : Type 0} → Told A → ℕ
 row (gives a) = 0
-row (refuses n) = 0
-row (refusesRow n r) = r
+row (refused r) = rowIn r
 
 -- the values, or what stands where there are none
 abbrev pub valuesOr : {A : Type 0} → A → Told A → A
 valuesOr none (gives a) = a
-valuesOr none (refuses n) = none
-valuesOr none (refusesRow n r) = none
-
--- the same of a refusal alone
-abbrev pub numberIn : Refusal → ℕ
-numberIn (Plain n) = n
-numberIn (AtRow n r) = n
-
-abbrev pub rowIn : Refusal → ℕ
-rowIn (Plain n) = 0
-rowIn (AtRow n r) = r
+valuesOr none (refused r) = none
 
 abbrev pub flatSheet : Told (Unit {0}) → SheetTold
 flatSheet t = record { refusal = number t; row = row t }
@@ -94,8 +86,7 @@ flatUnbegun n r = record { refusal = n; row = r; begun = 0; steps = 0; air = pos
 abbrev pub flatWalk : Told Course → WalkTold
 flatWalk (gives (done steps ch mk)) = flatBegun 0 steps ch mk
 flatWalk (gives (stopped steps n ch mk)) = flatBegun n steps ch mk
-flatWalk (refuses n) = flatUnbegun n 0
-flatWalk (refusesRow n r) = flatUnbegun n r
+flatWalk (refused r) = flatUnbegun (numberOf r) (rowIn r)
 
 -- no figures: three times the float whose 64 bits are 0
 abbrev pub noFigures : StationFigure

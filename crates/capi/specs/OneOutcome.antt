@@ -4,7 +4,7 @@ use mathlib.Core.List.{List}
 use Prim.Native.Nat.{ℕ}
 use lib.IntN.{ℤ}
 use lib.Ieee.{Float}
-use Rattle.air.specs.Refusals.{Told}
+use Rattle.refusal.specs.Refusals.{Told}
 use Rattle.air.specs.Answers.{heatTold as airHeatTold, psiTold as airPsiTold, cpTold as airCpTold}
 use Rattle.sheet.specs.Answers.{readTold, judgeTold}
 use Rattle.sheet.specs.FormLaws.{one-form}

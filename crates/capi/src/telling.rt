@@ -11,7 +11,6 @@ use crate::WalkTold;
 use air::Millikelvin;
 use air::PsiAnswer;
 use air::Reading;
-use air::Refusal;
 use gas::BurnAnswer;
 use gas::Charge;
 use gas::HeatAnswer;
@@ -20,27 +19,18 @@ use gas::TemperatureAnswer;
 use marking::MarkAnswer;
 use marking::StationAnswer;
 use marking::Typed;
+use refusal::Refusal;
 use sheet::SheetAnswer;
 use walk::WalkAnswer;
 ghost use mathlib.Core.Path.{_≡_};
-ghost use Rattle.air.specs.Refusals.{refused};
+ghost use Rattle.refusal.specs.Refusals.{refused};
 ghost use Rattle.air.specs.Answers.{paperReading, paperPsi};
 ghost use Rattle.sheet.specs.Answers.{paper as paperSheet};
 ghost use Rattle.gas.specs.Answers.{paperBurn, paperHeat, paperSpecific, paperTemperature};
 ghost use Rattle.walk.specs.Walk.{paperWalk};
 ghost use Rattle.marking.specs.Marking.{paper as paperMark};
 ghost use Rattle.marking.specs.Figures.{paperStation};
-ghost use Rattle.capi.specs.Flat.{numberIn, rowIn, flatSheet, flatReading, flatBurn, flatHeat, flatTemperature, flatPsi, flatWalk, flatBegun, flatStation, flatMark, typedOf};
-
-// The number of a refusal.
-fn number_of(r: Refusal) -> u32
-    ensures { λ n. ⌜ n ≡ numberIn r ⌝ }
-{
-    match r {
-        Refusal::Plain(number) => number,
-        Refusal::AtRow(number, _) => number,
-    }
-}
+ghost use Rattle.capi.specs.Flat.{rowIn, flatSheet, flatReading, flatBurn, flatHeat, flatTemperature, flatPsi, flatWalk, flatBegun, flatStation, flatMark, typedOf};
 
 // The row of a refusal, 0 where it has none.
 fn row_of(r: Refusal) -> u32
@@ -48,7 +38,7 @@ fn row_of(r: Refusal) -> u32
 {
     match r {
         Refusal::Plain(_) => 0,
-        Refusal::AtRow(_, row) => row,
+        Refusal::At(_, row) => row,
     }
 }
 
@@ -59,7 +49,7 @@ pub(crate) fn tell_sheet(answer: SheetAnswer) -> SheetTold
     match answer {
         SheetAnswer::Good => SheetTold { refusal: 0, row: 0 },
         SheetAnswer::Refused(r) => SheetTold {
-            refusal: number_of(r),
+            refusal: refusal::number_of(r),
             row: row_of(r),
         },
     }
@@ -76,7 +66,7 @@ pub(crate) fn tell_reading(answer: Reading) -> ReadingTold
             reading,
         },
         Reading::Refused(r) => ReadingTold {
-            refusal: number_of(r),
+            refusal: refusal::number_of(r),
             row: row_of(r),
             reading: 0,
         },
@@ -98,7 +88,7 @@ pub(crate) fn tell_burn(answer: BurnAnswer) -> BurnTold
             ar: products.ar,
         },
         BurnAnswer::Refused(r) => BurnTold {
-            refusal: number_of(r),
+            refusal: refusal::number_of(r),
             row: row_of(r),
             co2: 0,
             h2o: 0,
@@ -114,7 +104,7 @@ fn no_heat(r: Refusal) -> HeatTold
     ensures { λ t. ⌜ t ≡ flatHeat (refused r) ⌝ }
 {
     HeatTold {
-        refusal: number_of(r),
+        refusal: refusal::number_of(r),
         row: row_of(r),
         heat: 0,
     }
@@ -160,7 +150,7 @@ pub(crate) fn tell_temperature(answer: TemperatureAnswer) -> TemperatureTold
             rest: rest.0,
         },
         TemperatureAnswer::Refused(r) => TemperatureTold {
-            refusal: number_of(r),
+            refusal: refusal::number_of(r),
             row: row_of(r),
             millikelvin: 0,
             rest: 0,
@@ -180,7 +170,7 @@ pub(crate) fn tell_psi(answer: PsiAnswer) -> PsiTold
             rest,
         },
         PsiAnswer::Refused(r) => PsiTold {
-            refusal: number_of(r),
+            refusal: refusal::number_of(r),
             row: row_of(r),
             millikelvin: 0,
             rest: 0,
@@ -212,7 +202,7 @@ pub(crate) fn tell_walk(answer: WalkAnswer) -> WalkTold
         WalkAnswer::Done(steps, charge, t) => tell_begun(0, steps, charge, t),
         WalkAnswer::Stopped(steps, number, charge, t) => tell_begun(number, steps, charge, t),
         WalkAnswer::Refused(r) => WalkTold {
-            refusal: number_of(r),
+            refusal: refusal::number_of(r),
             row: row_of(r),
             begun: 0,
             steps: 0,
@@ -237,7 +227,7 @@ pub(crate) fn tell_station(answer: StationAnswer) -> StationTold
             mass: figures.mass,
         },
         StationAnswer::Refused(r) => StationTold {
-            refusal: number_of(r),
+            refusal: refusal::number_of(r),
             row: row_of(r),
             millikelvin: 0.0,
             content: 0.0,
@@ -275,7 +265,7 @@ pub(crate) fn tell_mark(answer: MarkAnswer) -> MarkTold
             counts: 0,
         },
         MarkAnswer::Refused(r) => MarkTold {
-            refusal: number_of(r),
+            refusal: refusal::number_of(r),
             row: row_of(r),
             counts: 0,
         },
