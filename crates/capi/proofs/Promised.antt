@@ -39,10 +39,10 @@ sheet-told {before = before} {a = a} p q =
     }
 
 -- the built-in sheet, for a list of its length and for any other
-pub built-in-refused : (l : List ℕ) → (length l ≡ 5403 → ⊥) → BuiltInIs l (record { refusal = 1; row = 0 }) l
+pub built-in-refused : (l : List ℕ) → (length l ≡ 5403 → ⊥) → BuiltInIs l (record { refusal = 1; row = 0; placed = 0 }) l
 built-in-refused l n = record { told = rw (ne-eqb (length l) 5403 n) refl; list = rw (ne-eqb (length l) 5403 n) refl }
 
-pub built-in-told : (l : List ℕ) {later : List ℕ} → length l ≡ 5403 → later ≡ builtIn → BuiltInIs l (record { refusal = 0; row = 0 }) later
+pub built-in-told : (l : List ℕ) {later : List ℕ} → length l ≡ 5403 → later ≡ builtIn → BuiltInIs l (record { refusal = 0; row = 0; placed = 0 }) later
 built-in-told l n e = record { told = rw (eq-eqb (length l) 5403 n) refl; list = rw (eq-eqb (length l) 5403 n) e }
 
 pub temperature-told : {w : Weights} {ch : Charge} {target : ℤ} {s before after : List ℕ} {a : TemperatureAnswer} {r : TemperatureTold}
