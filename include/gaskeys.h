@@ -17,8 +17,8 @@
  *   looks              whole kelvins that the search looked at, in their order; no look is 0, so the unused places are those with 0
  *
  * REFUSALS: `refusal` is 0 or one of the numbers of `enum gaskeys_refusal`. A call gives the first that holds, in the order that stands beside it.
- * `row` is the first bad row of refusals 2 and 3, and 0 where there is none; row 0 is 200 K, so only the number tells the two apart. Every field that
- * a case does not have is 0.
+ * `row` is the first bad row of refusals 2 and 3, and 0 where there is none; row 0 is 200 K, and `placed` tells the two apart: 1 where there is a row, else 0.
+ * Every field that a case does not have is 0.
  *
  * LISTS are lent as a pointer and a length in elements. A pointer is aligned, and a list that is written overlaps no other list of the same call. A pointer is not NULL
  * unless its length is 0; then it may be, as an empty std::vector of C++ gives it: nothing is read or written through it. A refusal changes no lent place, but for a
@@ -28,7 +28,7 @@
  * STACK: a thread with 48 KB of stack can make every call, and one with 24 KB every call but gaskeys_read_sheet. Measured were 30 KB for gaskeys_read_sheet and at most
  * 14 KB for any other, the thread's own 4 KB among them; bindings/c/limits.c measures it again and passes NULL to every call.
  *
- * VERSION: GASKEYS_VERSION goes up whenever a list or a struct changes its meaning. The archive has the symbol gaskeys_version_1, named after the number, and every file
+ * VERSION: GASKEYS_VERSION goes up whenever a list or a struct changes its meaning. The archive has the symbol gaskeys_version_2, named after the number, and every file
  * that includes this header refers to it: what was compiled with the header of another version does not link.
  */
 #ifndef GASKEYS_H
@@ -43,10 +43,10 @@ extern "C" {
 
 /* ---- the version ---- */
 
-#define GASKEYS_VERSION 1
+#define GASKEYS_VERSION 2
 
-/* Gives 1. */
-uint32_t gaskeys_version_1(void);
+/* Gives 2. */
+uint32_t gaskeys_version_2(void);
 
 /* The reference to it, kept also where nothing uses it. */
 #define GASKEYS_KEPT __attribute__((used))
@@ -56,7 +56,7 @@ uint32_t gaskeys_version_1(void);
 #define GASKEYS_KEPT __attribute__((used, retain))
 #endif
 #endif
-static uint32_t (*const gaskeys_linked_version)(void) GASKEYS_KEPT = gaskeys_version_1;
+static uint32_t (*const gaskeys_linked_version)(void) GASKEYS_KEPT = gaskeys_version_2;
 
 /* ---- refusals ---- */
 
@@ -81,6 +81,7 @@ enum gaskeys_refusal {
 typedef struct {
     uint32_t refusal;
     uint32_t row;
+    uint32_t placed;
 } gaskeys_sheet_told;
 
 /* Reads the text of a sheet into `list`: 1,801 lines, each kelvin, O2, CO2 and H2O parted by one tab and ended by one line feed.
@@ -101,6 +102,7 @@ gaskeys_sheet_told gaskeys_built_in_sheet(uint32_t *list, size_t list_length);
 typedef struct {
     uint32_t refusal;
     uint32_t row; /* always 0 */
+    uint32_t placed; /* always 0 */
     uint64_t reading;
 } gaskeys_reading_told;
 
@@ -121,6 +123,7 @@ gaskeys_reading_told gaskeys_air_cp(int64_t kelvin);
 typedef struct {
     uint32_t refusal;
     uint32_t row; /* always 0 */
+    uint32_t placed; /* always 0 */
     uint64_t co2; /* mg all five */
     uint64_t h2o;
     uint64_t o2;
@@ -135,6 +138,7 @@ gaskeys_burn_told gaskeys_burn(int64_t air, int64_t carbon, int64_t hydrogen);
 typedef struct {
     uint32_t refusal;
     uint32_t row;
+    uint32_t placed;
     int64_t heat;
 } gaskeys_heat_told;
 
@@ -155,6 +159,7 @@ gaskeys_heat_told gaskeys_specific_content(int64_t air, int64_t carbon, int64_t 
 typedef struct {
     uint32_t refusal;
     uint32_t row;
+    uint32_t placed;
     int64_t millikelvin;
     int64_t rest; /* the target less the gas heat at millikelvin */
 } gaskeys_temperature_told;
@@ -167,6 +172,7 @@ gaskeys_temperature_told gaskeys_temperature(int64_t air, int64_t carbon, int64_
 typedef struct {
     uint32_t refusal;
     uint32_t row; /* always 0 */
+    uint32_t placed; /* always 0 */
     int64_t millikelvin;
     uint64_t rest; /* the target less psi at millikelvin */
 } gaskeys_psi_told;
@@ -180,6 +186,7 @@ gaskeys_psi_told gaskeys_psi_inverse(int64_t target, uint32_t *looks, size_t loo
 typedef struct {
     uint32_t refusal; /* 0: done. With begun 1, the refusal of the step that stopped the walk; with begun 0, that of the start */
     uint32_t row;
+    uint32_t placed;
     uint32_t begun; /* 1 where the walk got past its start */
     uint32_t steps; /* the steps that were done */
     int64_t air;    /* the charge and the temperature after those steps */
@@ -205,6 +212,7 @@ gaskeys_walk_told gaskeys_walk(int64_t air, int64_t carbon, int64_t hydrogen, in
 typedef struct {
     uint32_t refusal;
     uint32_t row;
+    uint32_t placed;
     double millikelvin; /* whole numbers all three, below 2^53 in size: the difference of two like figures is exact */
     double content;     /* specific content above 15 degrees C, in 0.00001 C.H.U./lb, the fraction dropped toward zero */
     double mass;        /* total mass in mg */
@@ -219,6 +227,7 @@ enum { GASKEYS_KELVINS = 0, GASKEYS_CONTENT = 1, GASKEYS_BLANK = 2 };
 typedef struct {
     uint32_t refusal;
     uint32_t row;    /* always 0 */
+    uint32_t placed;
     uint32_t counts; /* 1 where the answer counts */
 } gaskeys_mark_told;
 

@@ -21,12 +21,17 @@ mod columns {
 /// A refusal's number, and the row of refusals 2 and 3.
 type Refused = (u32, u32);
 
+/// 1 where a number comes with a row, else 0.
+fn placed(refusal: u32) -> u32 {
+    matches!(refusal, 2 | 3) as u32
+}
+
 pub const PLAIN: Calls =
     Calls { read_sheet, judge_sheet, temperature, psi_inverse, walk: walk_told, station, mark };
 
 fn sheet_told(answer: Result<(), Refused>) -> SheetTold {
     let (refusal, row) = answer.err().unwrap_or_default();
-    SheetTold { refusal, row }
+    SheetTold { refusal, row, placed: placed(refusal) }
 }
 
 unsafe extern "C" fn read_sheet(text: *const u8, n: usize, list: *mut u32, m: usize) -> SheetTold {
@@ -50,15 +55,19 @@ unsafe extern "C" fn temperature(
     let charge = Charge { air, carbon, hydrogen };
     let (sheet, looks) = (from_raw_parts(sheet, n), from_raw_parts_mut(looks, m));
     match gas::temperature(charge, target, sheet, looks) {
-        Ok((millikelvin, rest)) => TemperatureTold { refusal: 0, row: 0, millikelvin, rest },
-        Err((refusal, row)) => TemperatureTold { refusal, row, millikelvin: 0, rest: 0 },
+        Ok((millikelvin, rest)) => {
+            TemperatureTold { refusal: 0, row: 0, placed: 0, millikelvin, rest }
+        }
+        Err((refusal, row)) => {
+            TemperatureTold { refusal, row, placed: placed(refusal), millikelvin: 0, rest: 0 }
+        }
     }
 }
 
 unsafe extern "C" fn psi_inverse(target: i64, looks: *mut u32, n: usize) -> PsiTold {
     match air::psi_inverse(target, from_raw_parts_mut(looks, n)) {
-        Ok((millikelvin, rest)) => PsiTold { refusal: 0, row: 0, millikelvin, rest },
-        Err(refusal) => PsiTold { refusal, row: 0, millikelvin: 0, rest: 0 },
+        Ok((millikelvin, rest)) => PsiTold { refusal: 0, row: 0, placed: 0, millikelvin, rest },
+        Err(refusal) => PsiTold { refusal, row: 0, placed: 0, millikelvin: 0, rest: 0 },
     }
 }
 
@@ -91,7 +100,8 @@ unsafe extern "C" fn walk_told(
             Err(refused) => (0, refused, (0, Charge { air: 0, carbon: 0, hydrogen: 0 }, 0)),
         };
     let Charge { air, carbon, hydrogen } = at;
-    WalkTold { refusal, row, begun, steps, air, carbon, hydrogen, millikelvin }
+    let placed = placed(refusal);
+    WalkTold { refusal, row, placed, begun, steps, air, carbon, hydrogen, millikelvin }
 }
 
 unsafe extern "C" fn station(
@@ -105,10 +115,11 @@ unsafe extern "C" fn station(
     let charge = Charge { air, carbon, hydrogen };
     match marking::station(charge, mk, from_raw_parts(sheet, n)) {
         Ok([millikelvin, content, mass]) => {
-            StationTold { refusal: 0, row: 0, millikelvin, content, mass }
+            StationTold { refusal: 0, row: 0, placed: 0, millikelvin, content, mass }
         }
         Err((refusal, row)) => {
-            StationTold { refusal, row, millikelvin: 0.0, content: 0.0, mass: 0.0 }
+            let placed = placed(refusal);
+            StationTold { refusal, row, placed, millikelvin: 0.0, content: 0.0, mass: 0.0 }
         }
     }
 }
@@ -120,7 +131,7 @@ unsafe extern "C" fn mark(kind: u32, number: f64, key: i64, window: i64) -> Mark
         _ => marking::Typed::Blank,
     };
     match marking::mark(typed, key, window) {
-        Ok(counts) => MarkTold { refusal: 0, row: 0, counts: counts as u32 },
-        Err(refusal) => MarkTold { refusal, row: 0, counts: 0 },
+        Ok(counts) => MarkTold { refusal: 0, row: 0, placed: 0, counts: counts as u32 },
+        Err(refusal) => MarkTold { refusal, row: 0, placed: 0, counts: 0 },
     }
 }

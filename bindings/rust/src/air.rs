@@ -40,6 +40,6 @@ pub fn air_cp(kelvin: i64) -> Result<u64, Refusal> {
 }
 
 fn read(told: raw::ReadingTold) -> Result<u64, Refusal> {
-    Refusal::told(told.refusal, told.row)?;
+    Refusal::told(told.refusal, told.row, told.placed)?;
     Ok(told.reading)
 }

@@ -42,7 +42,7 @@ pub struct Products {
 pub fn burn(charge: Charge) -> Result<Products, Refusal> {
     // SAFETY: numbers alone are passed.
     let told = unsafe { raw::gaskeys_burn(charge.air, charge.carbon, charge.hydrogen) };
-    Refusal::told(told.refusal, told.row)?;
+    Refusal::told(told.refusal, told.row, told.placed)?;
     let raw::BurnTold { co2, h2o, o2, n2, ar, .. } = told;
     Ok(Products { co2, h2o, o2, n2, ar })
 }
@@ -105,7 +105,7 @@ fn heat_of(at: State, sheet: &[u32], call: HeatCall) -> Result<i64, Refusal> {
     let State { charge: Charge { air, carbon, hydrogen }, temperature } = at;
     // SAFETY: a Rust slice with its length; it is only read.
     let told = unsafe { call(air, carbon, hydrogen, temperature.0, sheet.as_ptr(), sheet.len()) };
-    Refusal::told(told.refusal, told.row)?;
+    Refusal::told(told.refusal, told.row, told.placed)?;
     Ok(told.heat)
 }
 
@@ -147,7 +147,7 @@ pub fn temperature(
             looks.len(),
         )
     };
-    Refusal::told(told.refusal, told.row)?;
+    Refusal::told(told.refusal, told.row, told.placed)?;
     Ok((Millikelvin(told.millikelvin), Heat(told.rest)))
 }
 
@@ -164,6 +164,6 @@ pub fn temperature(
 pub fn psi_inverse(target: i64, looks: &mut [u32]) -> Result<(Millikelvin, u64), Refusal> {
     // SAFETY: a Rust slice with its length.
     let told = unsafe { raw::gaskeys_psi_inverse(target, looks.as_mut_ptr(), looks.len()) };
-    Refusal::told(told.refusal, told.row)?;
+    Refusal::told(told.refusal, told.row, told.placed)?;
     Ok((Millikelvin(told.millikelvin), told.rest))
 }

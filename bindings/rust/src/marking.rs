@@ -37,7 +37,7 @@ pub fn station(at: State, sheet: &[u32]) -> Result<Station, Refusal> {
             sheet.len(),
         )
     };
-    Refusal::told(told.refusal, told.row)?;
+    Refusal::told(told.refusal, told.row, told.placed)?;
     Ok(Station { millikelvin: told.millikelvin, content: told.content, mass: told.mass })
 }
 
@@ -73,6 +73,6 @@ pub fn mark(typed: Typed, key: i64, window: i64) -> Result<bool, Refusal> {
     };
     // SAFETY: numbers alone are passed.
     let told = unsafe { raw::gaskeys_mark(kind, number, key, window) };
-    Refusal::told(told.refusal, told.row)?;
+    Refusal::told(told.refusal, told.row, told.placed)?;
     Ok(told.counts == 1)
 }

@@ -6,12 +6,14 @@
 pub struct SheetTold {
     pub refusal: u32,
     pub row: u32,
+    pub placed: u32,
 }
 
 #[repr(C)]
 pub struct ReadingTold {
     pub refusal: u32,
     pub row: u32,
+    pub placed: u32,
     pub reading: u64,
 }
 
@@ -19,6 +21,7 @@ pub struct ReadingTold {
 pub struct BurnTold {
     pub refusal: u32,
     pub row: u32,
+    pub placed: u32,
     pub co2: u64,
     pub h2o: u64,
     pub o2: u64,
@@ -30,6 +33,7 @@ pub struct BurnTold {
 pub struct HeatTold {
     pub refusal: u32,
     pub row: u32,
+    pub placed: u32,
     pub heat: i64,
 }
 
@@ -37,6 +41,7 @@ pub struct HeatTold {
 pub struct TemperatureTold {
     pub refusal: u32,
     pub row: u32,
+    pub placed: u32,
     pub millikelvin: i64,
     pub rest: i64,
 }
@@ -45,6 +50,7 @@ pub struct TemperatureTold {
 pub struct PsiTold {
     pub refusal: u32,
     pub row: u32,
+    pub placed: u32,
     pub millikelvin: i64,
     pub rest: u64,
 }
@@ -53,6 +59,7 @@ pub struct PsiTold {
 pub struct WalkTold {
     pub refusal: u32,
     pub row: u32,
+    pub placed: u32,
     pub begun: u32,
     pub steps: u32,
     pub air: i64,
@@ -65,6 +72,7 @@ pub struct WalkTold {
 pub struct StationTold {
     pub refusal: u32,
     pub row: u32,
+    pub placed: u32,
     pub millikelvin: f64,
     pub content: f64,
     pub mass: f64,
@@ -74,19 +82,20 @@ pub struct StationTold {
 pub struct MarkTold {
     pub refusal: u32,
     pub row: u32,
+    pub placed: u32,
     pub counts: u32,
 }
 
 /// The header's GASKEYS_VERSION: it goes up whenever a list or a struct changes its meaning.
-pub const VERSION: u32 = 1;
+pub const VERSION: u32 = 2;
 
 /// Kept in whatever links the wrapper, as the header has it: an archive of another version does not
 /// have the symbol.
 #[used]
-static LINKED_VERSION: unsafe extern "C" fn() -> u32 = gaskeys_version_1;
+static LINKED_VERSION: unsafe extern "C" fn() -> u32 = gaskeys_version_2;
 
 extern "C" {
-    pub fn gaskeys_version_1() -> u32;
+    pub fn gaskeys_version_2() -> u32;
 
     pub fn gaskeys_read_sheet(
         text: *const u8,

@@ -80,11 +80,10 @@ impl Refusal {
     }
 
     /// What the library told: none where the number is 0.
-    pub(crate) fn told(number: u32, row: u32) -> Result<(), Refusal> {
+    pub(crate) fn told(number: u32, row: u32, placed: u32) -> Result<(), Refusal> {
         let Some(at) = number.checked_sub(1) else { return Ok(()) };
         let (reason, _) = REASONS[at as usize];
-        let has_row = matches!(reason, Reason::SheetText | Reason::SheetRow);
-        Err(Refusal { reason, row: has_row.then_some(row) })
+        Err(Refusal { reason, row: (placed == 1).then_some(row) })
     }
 }
 

@@ -24,7 +24,7 @@ pub fn read_sheet(text: &[u8], list: &mut [u32]) -> Result<(), Refusal> {
     let told = unsafe {
         raw::gaskeys_read_sheet(text.as_ptr(), text.len(), list.as_mut_ptr(), list.len())
     };
-    Refusal::told(told.refusal, told.row)
+    Refusal::told(told.refusal, told.row, told.placed)
 }
 
 /// Judges a sheet list as every call that takes one does first: its length, the limit of 200,000
@@ -40,7 +40,7 @@ pub fn read_sheet(text: &[u8], list: &mut [u32]) -> Result<(), Refusal> {
 pub fn judge_sheet(list: &[u32]) -> Result<(), Refusal> {
     // SAFETY: a Rust slice with its length; it is only read.
     let told = unsafe { raw::gaskeys_judge_sheet(list.as_ptr(), list.len()) };
-    Refusal::told(told.refusal, told.row)
+    Refusal::told(told.refusal, told.row, told.placed)
 }
 
 /// The sheet that comes with the product, which every call that takes a sheet accepts.
@@ -61,5 +61,5 @@ pub fn built_in_sheet() -> Vec<u32> {
 pub fn fill_built_in_sheet(list: &mut [u32]) -> Result<(), Refusal> {
     // SAFETY: a Rust slice with its length.
     let told = unsafe { raw::gaskeys_built_in_sheet(list.as_mut_ptr(), list.len()) };
-    Refusal::told(told.refusal, told.row)
+    Refusal::told(told.refusal, told.row, told.placed)
 }

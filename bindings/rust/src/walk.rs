@@ -98,7 +98,7 @@ pub fn walk(start: State, sheet: &[u32], steps: &[i64], lent: Lent) -> Walked {
 fn walked(told: &raw::WalkTold) -> Walked {
     let charge = Charge { air: told.air, carbon: told.carbon, hydrogen: told.hydrogen };
     let state = State { charge, temperature: Millikelvin(told.millikelvin) };
-    match (told.begun, Refusal::told(told.refusal, told.row)) {
+    match (told.begun, Refusal::told(told.refusal, told.row, told.placed)) {
         (0, Err(refusal)) => Walked::Refused(refusal),
         (_, Err(refusal)) => Walked::Stopped(told.steps, refusal, state),
         (_, Ok(())) => Walked::Done(told.steps, state),

@@ -113,14 +113,14 @@ fn a_refusal_has_0_in_every_other_field() {
             raw::gaskeys_air_heat(199_999),
         )
     };
-    assert_eq!((burnt.refusal, burnt.row), (4, 0));
+    assert_eq!((burnt.refusal, burnt.row, burnt.placed), (4, 0, 0));
     assert_eq!([burnt.co2, burnt.h2o, burnt.o2, burnt.n2, burnt.ar], [0; 5]);
-    assert_eq!((heat.refusal, heat.row, heat.heat), (6, 0, 0));
-    assert_eq!((reading.refusal, reading.row, reading.reading), (6, 0, 0));
+    assert_eq!((heat.refusal, heat.row, heat.placed, heat.heat), (6, 0, 0, 0));
+    assert_eq!((reading.refusal, reading.row, reading.placed, reading.reading), (6, 0, 0, 0));
 }
 
 #[test]
 fn the_archive_has_the_wrappers_version() {
     // SAFETY: nothing is passed.
-    assert_eq!(unsafe { raw::gaskeys_version_1() }, raw::VERSION);
+    assert_eq!(unsafe { raw::gaskeys_version_2() }, raw::VERSION);
 }

@@ -20,10 +20,10 @@ use Rattle.air.specs.Readings.{airPsiAt}
 use Rattle.air.specs.ReadingsLaws.{between-whole, psi-straight, psi-slope}
 use Rattle.air.specs.Halving.{halving, eleven, Halved}
 use Rattle.air.specs.HalvingLaws.{Kept, places-are}
-use Rattle.air.specs.Inverse.{temperature, rest, looks, Found, found}
-use Rattle.air.specs.InverseLaws.{refusal-writes-nothing, no-looks, looks-are, rest-least, row-kept, top-temperature, top-rest, part-small, temperature-is, rest-is}
-use Rattle.air.specs.Refusals.{gives, Line, toldBy, First, Clear}
-use Rattle.air.specs.RefusalsLaws.{refusal-given, values-given}
+use Rattle.air.specs.Inverse.{temperature, rest, looks, found}
+use Rattle.air.specs.InverseLaws.{no-looks, looks-are, rest-least, row-kept, top-temperature, top-rest, part-small, temperature-is, rest-is}
+use Rattle.refusal.specs.Refusals.{gives, Line, toldBy, First, Clear}
+use Rattle.refusal.specs.RefusalsLaws.{refusal-given, values-given}
 use Rattle.air.specs.Answers.{psiValue, psiOrder, paperPsi, PsiInverse}
 use Rattle.air.specs.Search.{psiFits, PsiRow, psiFound, PsiSearched}
 
@@ -126,9 +126,9 @@ psi-end k u e h q = q ∙ ap pos (ap (λ (n : ℕ). 1000 * n) (psi-figure k e h)
 
 -- a refusal leaves the lent list
 pub psi-refused : (target : ℤ) (before : List ℕ) (r : PsiAnswer) {l : Line} → First (psiOrder (length before) target) l → paperPsi r ≡ toldBy l → PsiInverse target before r before
-psi-refused target before r {l} f e =
+psi-refused target before r f e =
     let g = refusal-given (found psiValue target) f in
-    record { told = e ∙ sym g; list = rw g (sym (refusal-writes-nothing Found l (looks psiValue target) before)) }
+    record { told = e ∙ sym g; list = rw g refl }
 
 -- a target that is reached is answered by the search
 pub psi-answered : (target : ℤ) (before : List ℕ) {n : ℕ} {r : PsiAnswer} {after : List ℕ} → Clear (psiOrder (length before) target) → pos n ≡ target

@@ -11,7 +11,7 @@ use Rattle.air.specs.declared.Reading.{Reading}
 use Rattle.air.specs.declared.Reading.the-variants.{Is, Refused}
 use Rattle.air.specs.declared.PsiAnswer.{PsiAnswer}
 use Rattle.air.specs.declared.PsiAnswer.the-variants.{At, Refused as PsiRefused}
-use Rattle.air.specs.Refusals.{Told, gives, refused, Line, _when_, first}
+use Rattle.refusal.specs.Refusals.{Told, gives, refused, Line, _when_, first}
 use Rattle.air.specs.Readings.{airHeat, airPsiAt}
 use Rattle.air.specs.Inverse.{looks, unreached, Found, found, written}
 

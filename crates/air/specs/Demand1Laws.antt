@@ -8,8 +8,8 @@ use Rattle.signed.specs.Zed.{up, outside}
 use Rattle.rows.specs.Table.{airCp}
 use Rattle.air.specs.declared.Reading.{Reading}
 use Rattle.air.specs.declared.PsiAnswer.{PsiAnswer}
-use Rattle.air.specs.Refusals.{_when_, Demand1}
-use Rattle.air.specs.RefusalsLaws.{demand-1}
+use Rattle.refusal.specs.Refusals.{_when_, Demand1}
+use Rattle.refusal.specs.RefusalsLaws.{demand-1}
 use Rattle.air.specs.Readings.{airHeat, airPsiAt}
 use Rattle.air.specs.Inverse.{found}
 use Rattle.air.specs.Answers.{paperReading, heatTold, psiTold, cpTold, psiValue, paperPsi, psiOrder, PsiInverse}

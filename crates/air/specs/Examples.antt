@@ -6,7 +6,7 @@ use lib.IntN.{pos, negsuc}
 use Rattle.signed.specs.Zed.{inZ, eqZ}
 use Rattle.rows.specs.Rows.{rowsH, rowsCp, rowsPsi}
 use Rattle.rows.specs.Table.{column, airH, airCp, airPsi}
-use Rattle.air.specs.Refusals.{gives, refuses}
+use Rattle.refusal.specs.Refusals.{gives, refuses}
 use Rattle.air.specs.Readings.{reading, between, airHeat, airPsiAt}
 use Rattle.air.specs.Halving.{halvings, halving}
 use Rattle.air.specs.ReadingsLaws.{straight, psi-straight}

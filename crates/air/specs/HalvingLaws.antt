@@ -19,7 +19,7 @@ use lib.Pow.{pow-pos}
 use lib.ListN.{length, drop, replicate, set, length-set, length-append, length-replicate}
 use lib.Seq.{sets, sets-eq, drop-append-le}
 use Rattle.air.specs.Halving.{middle, Search, looked, stopped, halvings, halving, highestBy, highest, eleven, Room, Halved}
-use Rattle.air.specs.RefusalsLaws.{by-bool}
+use Rattle.refusal.specs.BoolLaws.{by-bool}
 
 module _ (p : ℕ → Bool) where
   stop : (n lo hi : ℕ) → hi ≤ lo + 1 → halvings p n lo hi ≡ stopped lo

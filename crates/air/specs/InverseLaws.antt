@@ -2,7 +2,7 @@
 -- and one division in that row gives it, with the rest. The psi inverse and the temperature of a gas both cite these laws. Assumes nothing.
 use mathlib.Core.Path.{_≡_, refl, sym, ap, _∙_, subst}
 use mathlib.Core.Bool.{true, false}
-use mathlib.Core.List.{List, []}
+use mathlib.Core.List.{[]}
 use mathlib.Core.Logic.{⊎-elim}
 use Prim.Native.Nat.{ℕ, suc, _+_, _-_, _*_, _/_, _%_, _<_, _≤_}
 use native.Mathlib.Nat.{eq-or-lt-of-le, div-add-mod', mod-lt, div-lt-iff-lt-mul, suc-mul}
@@ -15,17 +15,11 @@ use Rattle.signed.specs.Zed.{up, dn, Is, is-pos, is-self, is-add, is-minus, sam
 use Rattle.rows.specs.GrowthLaws.{grows}
 use Rattle.air.specs.Halving.{highest, halving}
 use Rattle.air.specs.HalvingLaws.{highest-is, highest-passes, highest-least, highest-most, highest-above, Kept, kept, at-least-ten, at-most-eleven}
-use Rattle.air.specs.Inverse.{fits, temperature, rest, looks, written, Straight}
-use Rattle.air.specs.RefusalsLaws.{by-bool}
-use Rattle.air.specs.Refusals.{Line, _when_, _on-row_when_, toldBy}
+use Rattle.air.specs.Inverse.{fits, temperature, rest, looks, Straight}
+use Rattle.refusal.specs.BoolLaws.{by-bool}
 
 <ℤ-trans : {x y z : ℤ} → x <ℤ y → y <ℤ z → x <ℤ z
 <ℤ-trans h k = let a = lt-parts h in let b = lt-parts k in lt-from (omega arith)
-
--- ---- a refusal leaves the lent list of looks
-pub refusal-writes-nothing : (A : Type 0) (l : Line) (xs before : List ℕ) → written {A = A} (toldBy l) xs before ≡ before
-refusal-writes-nothing A (n when c) xs before = refl
-refusal-writes-nothing A (n on-row r when c) xs before = refl
 
 -- ---- the looks
 module _ (v : ℕ → ℤ) (t : ℤ) where

@@ -1,6 +1,3 @@
-pub mod Refusals
-pub mod RefusalsLaws
-pub mod OrdersLaws
 pub mod Readings
 pub mod Halving
 pub mod Inverse

@@ -4,38 +4,33 @@ use mathlib.Core.List.{List}
 use Prim.Native.Nat.{ℕ}
 use lib.IntN.{ℤ}
 use Rattle.signed.specs.Zed.{up}
-use Rattle.air.specs.declared.Refusal.the-variants.{Plain, AtRow}
 use Rattle.air.specs.declared.Reading.{Reading}
 use Rattle.air.specs.declared.Reading.the-variants.{Is, Refused}
 use Rattle.air.specs.declared.PsiAnswer.{PsiAnswer}
 use Rattle.air.specs.declared.PsiAnswer.the-variants.{At, Refused as PsiRefused}
-use Rattle.air.specs.Refusals.{Told, gives, refuses, refusesRow}
-use Rattle.air.specs.RefusalsLaws.{one-told}
+use Rattle.refusal.specs.Refusals.{Told, gives, refused}
+use Rattle.refusal.specs.RefusalsLaws.{one-told}
 use Rattle.air.specs.Inverse.{Found}
 use Rattle.air.specs.Answers.{paperReading, heatTold, psiTold, cpTold, paperPsi, PsiInverse}
 
 -- the answer that the paper's telling stands for
 reading : Told ℕ → Reading
 reading (gives n) = Is n
-reading (refuses n) = Refused (Plain n)
-reading (refusesRow n r) = Refused (AtRow n r)
+reading (refused r) = Refused r
 
 reading-back : (r : Reading) → reading (paperReading r) ≡ r
 unfolding reading
 reading-back (Is n) = refl
-reading-back (Refused (Plain n)) = refl
-reading-back (Refused (AtRow n r)) = refl
+reading-back (Refused r) = refl
 
 psiAnswer : Told Found → PsiAnswer
 psiAnswer (gives f) = At (record { 0 = f .mk }) (up (f .left))
-psiAnswer (refuses n) = PsiRefused (Plain n)
-psiAnswer (refusesRow n r) = PsiRefused (AtRow n r)
+psiAnswer (refused r) = PsiRefused r
 
 psi-back : (r : PsiAnswer) → psiAnswer (paperPsi r) ≡ r
 unfolding psiAnswer
 psi-back (At t n) = refl
-psi-back (PsiRefused (Plain n)) = refl
-psi-back (PsiRefused (AtRow n r)) = refl
+psi-back (PsiRefused r) = refl
 
 pub one-heat : (mk : ℤ) (r s : Reading) → paperReading r ≡ heatTold mk → paperReading s ≡ heatTold mk → r ≡ s
 one-heat mk = one-told paperReading reading reading-back

@@ -1,21 +1,16 @@
 // Dry air from 200 K to 2,000 K (document 01, "The air table"): heat, psi and Cp read from Table 1, and the temperature of a psi.
 // Every call takes any signed number and promises an equation: what the answer tells, in the paper's numbers (specs/Answers.antt), is the first
-// refusal of its order whose condition holds (specs/Refusals.antt), else the table's reading (specs/Readings.antt, specs/Inverse.antt).
+// refusal of its order whose condition holds (refusal/specs/Refusals.antt), else the table's reading (specs/Readings.antt, specs/Inverse.antt).
 // The halving theory of specs/ is stated over any value by temperature, for the gas above as for psi here.
 pub mod inner;
 mod search;
 
+use refusal::Refusal;
 ghost use mathlib.Core.Path.{_≡_};
 ghost use Rattle.air.specs.Answers.{paperReading, heatTold, psiTold, cpTold, PsiInverse};
 
 // A temperature in thousandths of a kelvin.
 pub struct Millikelvin(pub i64);
-
-// A refusal by its number in document 01; for 2 and 3 with the first bad row.
-pub enum Refusal {
-    Plain(u32),
-    AtRow(u32, u32),
-}
 
 // A number read from the table, or the refusal.
 pub enum Reading {

@@ -5,9 +5,8 @@ use Prim.Native.Nat.{ℕ}
 use lib.IntN.{ℤ}
 use lib.ListN.{length}
 use borrow.Author.Tests.{eq-eqb, ne-eqb}
-use Rattle.air.specs.declared.Refusal.the-variants.{Plain, AtRow}
 use Rattle.air.specs.declared.PsiAnswer.{PsiAnswer}
-use Rattle.air.specs.Refusals.{Told}
+use Rattle.refusal.specs.Refusals.{Told}
 use Rattle.air.specs.Answers.{paperPsi, PsiInverse}
 use Rattle.sheet.specs.declared.SheetAnswer.{SheetAnswer}
 use Rattle.sheet.specs.declared.SheetAnswer.the-variants.{Good, Refused}
@@ -29,8 +28,7 @@ use Rattle.capi.specs.Lent.{listTold, SheetIs, BuiltInIs, TemperatureIs,
 -- the list by the answer is the list by what it tells
 list-as-told : (a : SheetAnswer) (numbers before : List ℕ) → listAfter a numbers before ≡ listTold (paper a) numbers before
 list-as-told Good numbers before = refl
-list-as-told (Refused (Plain n)) numbers before = refl
-list-as-told (Refused (AtRow n r)) numbers before = refl
+list-as-told (Refused r) numbers before = refl
 
 pub sheet-told : {text before later : List ℕ} {a : SheetAnswer} {r : SheetTold} → SheetRead text before a later → r ≡ flatSheet (paper a) → SheetIs text before r later
 sheet-told {before = before} {a = a} p q =
@@ -41,10 +39,10 @@ sheet-told {before = before} {a = a} p q =
     }
 
 -- the built-in sheet, for a list of its length and for any other
-pub built-in-refused : (l : List ℕ) → (length l ≡ 5403 → ⊥) → BuiltInIs l (record { refusal = 1; row = 0 }) l
+pub built-in-refused : (l : List ℕ) → (length l ≡ 5403 → ⊥) → BuiltInIs l (record { refusal = 1; row = 0; placed = 0 }) l
 built-in-refused l n = record { told = rw (ne-eqb (length l) 5403 n) refl; list = rw (ne-eqb (length l) 5403 n) refl }
 
-pub built-in-told : (l : List ℕ) {later : List ℕ} → length l ≡ 5403 → later ≡ builtIn → BuiltInIs l (record { refusal = 0; row = 0 }) later
+pub built-in-told : (l : List ℕ) {later : List ℕ} → length l ≡ 5403 → later ≡ builtIn → BuiltInIs l (record { refusal = 0; row = 0; placed = 0 }) later
 built-in-told l n e = record { told = rw (eq-eqb (length l) 5403 n) refl; list = rw (eq-eqb (length l) 5403 n) e }
 
 pub temperature-told : {w : Weights} {ch : Charge} {target : ℤ} {s before after : List ℕ} {a : TemperatureAnswer} {r : TemperatureTold}

@@ -11,8 +11,9 @@ use lib.IntN.{ℤ, pos}
 use lib.Ieee.{Float}
 use lib.ListN.{length}
 use Rattle.signed.specs.Zed.{outside}
-use Rattle.air.specs.Refusals.{Told, gives, Line, _when_, _on-row_when_, toldBy, lineNumber, first, First, here, after, Clear}
-use Rattle.air.specs.RefusalsLaws.{by-bool, first-or-clear, refusal-given, values-given}
+use Rattle.refusal.specs.Refusals.{Told, gives, Line, _when_, _at-place_when_, lineNumber, first, First, here, after, Clear}
+use Rattle.refusal.specs.BoolLaws.{by-bool}
+use Rattle.refusal.specs.RefusalsLaws.{first-or-clear, refusal-given, values-given}
 use Rattle.air.specs.Inverse.{unreached}
 use Rattle.air.specs.Answers.{heatTold as airHeatTold, psiTold as airPsiTold, cpTold as airCpTold, psiOrder}
 use Rattle.sheet.specs.Sheet.{notLong}
@@ -33,31 +34,23 @@ use Rattle.capi.specs.declared.PsiTold.{PsiTold}
 use Rattle.capi.specs.declared.WalkTold.{WalkTold}
 use Rattle.capi.specs.declared.StationTold.{StationTold}
 use Rattle.capi.specs.declared.MarkTold.{MarkTold}
-use Rattle.capi.specs.Flat.{number, row, flatSheet, flatReading, flatBurn, flatHeat, flatStation, flatMark, flatBegun, flatUnbegun, flatWalk, typedOf}
+use Rattle.capi.specs.Flat.{number, row, placed, flatSheet, flatReading, flatBurn, flatHeat, flatStation, flatMark, flatBegun, flatUnbegun, flatWalk, typedOf}
 use Rattle.capi.specs.Lent.{SheetIs, BuiltInIs, TemperatureIs, PsiIs, WalkIs}
-use Rattle.capi.specs.Demand1.{lineRow, numbered, FlatDemand1, WalkDemand1}
+use Rattle.capi.specs.Demand1.{lineRow, linePlaced, numbered, FlatDemand1, WalkDemand1}
 
 -- ---- once over any order
-line-number : (A : Type 0) (l : Line) → number (toldBy {A = A} l) ≡ lineNumber l
-line-number A (n when c) = refl
-line-number A (n on-row r when c) = refl
-
-line-row : (A : Type 0) (l : Line) → row (toldBy {A = A} l) ≡ lineRow l
-line-row A (n when c) = refl
-line-row A (n on-row r when c) = refl
-
 not-0 : (ls : List Line) {l : Line} → numbered ls ≡ true → First ls l → 0 < lineNumber l
 not-0 (l ∷ ls) e (here h) = by-bool (ltb 0 (lineNumber l)) (λ p. ltb-true 0 (lineNumber l) p) (λ p. absurd (true≢false (sym e ∙ rw p refl)))
 not-0 (m ∷ ls) e (after h f) = by-bool (ltb 0 (lineNumber m)) (λ p. not-0 ls (rw p at e) f) (λ p. absurd (true≢false (sym e ∙ rw p refl)))
 
-flat-demand-1 : {A : Type 0} (order : List Line) (values : A) → numbered order ≡ true → FlatDemand1 order (number (first order values)) (row (first order values))
-flat-demand-1 {A} order values some = record {
-  refused-with = λ n k p. (
+flat-demand-1 : {A : Type 0} (order : List Line) (values : A) → numbered order ≡ true → FlatDemand1 order (number (first order values)) (row (first order values)) (placed (first order values))
+flat-demand-1 order values some = record {
+  refused-with = λ n k p some-n. (
     λ e. ⊎-elim
-        (λ w. (w .0, w .1, sym (number-of (w .0) (w .1)) ∙ e .0, sym (row-of (w .0) (w .1)) ∙ e .1))
+        (λ w. (w .0, w .1, sym (number-of (w .0) (w .1)) ∙ e .0, sym (row-of (w .0) (w .1)) ∙ e .1, sym (placed-of (w .0) (w .1)) ∙ e .2))
         (λ c. absurd (let z : 0 ≡ n = sym (ap number (values-given values c)) ∙ e .0 in omega arith))
         (first-or-clear order),
-    λ w. (number-of (w .0) (w .1) ∙ w .2, row-of (w .0) (w .1) ∙ w .3),
+    λ w. (number-of (w .0) (w .1) ∙ w .2, row-of (w .0) (w .1) ∙ w .3, placed-of (w .0) (w .1) ∙ w .4),
   );
   answered = (
     λ e. ⊎-elim (λ w. absurd (let z = not-0 order some (w .1) in let q = sym (number-of (w .0) (w .1)) ∙ e in omega arith)) (λ c. c) (first-or-clear order),
@@ -66,67 +59,66 @@ flat-demand-1 {A} order values some = record {
 }
   where
     number-of : (l : Line) → First order l → number (first order values) ≡ lineNumber l
-    number-of l f = ap number (refusal-given values f) ∙ line-number A l
+    number-of l f = ap number (refusal-given values f)
 
     row-of : (l : Line) → First order l → row (first order values) ≡ lineRow l
-    row-of l f = ap row (refusal-given values f) ∙ line-row A l
+    row-of l f = ap row (refusal-given values f)
+
+    placed-of : (l : Line) → First order l → placed (first order values) ≡ linePlaced l
+    placed-of l f = ap placed (refusal-given values f)
 
 -- ---- the sheet
 pub demand-1-gaskeys_read_sheet : {text before later : List ℕ} {r : SheetTold} (h : SheetIs text before r later)
-    → FlatDemand1 (1 when notLong before ∷ 2 on-row badRowOf (h .form) when breaks (h .form) ∷ []) (r .refusal) (r .row)
+    → FlatDemand1 (1 when notLong before ∷ 2 at-place badRowOf (h .form) when breaks (h .form) ∷ []) (r .refusal) (r .row) (r .placed)
 demand-1-gaskeys_read_sheet h = rw (h .told) (flat-demand-1 _ tt refl)
 
-pub demand-1-gaskeys_judge_sheet : (s : List ℕ) (r : SheetTold) → r ≡ flatSheet (judgeTold s) → FlatDemand1 (sheetLines s) (r .refusal) (r .row)
+pub demand-1-gaskeys_judge_sheet : (s : List ℕ) (r : SheetTold) → r ≡ flatSheet (judgeTold s) → FlatDemand1 (sheetLines s) (r .refusal) (r .row) (r .placed)
 demand-1-gaskeys_judge_sheet s r e = rw e (flat-demand-1 _ tt refl)
 
-pub «demand-1-gaskeys_built_in_sheet» : {before later : List ℕ} {r : SheetTold} → BuiltInIs before r later → FlatDemand1 (1 when notLong before ∷ []) (r .refusal) (r .row)
+pub «demand-1-gaskeys_built_in_sheet» : {before later : List ℕ} {r : SheetTold} → BuiltInIs before r later → FlatDemand1 (1 when notLong before ∷ []) (r .refusal) (r .row) (r .placed)
 «demand-1-gaskeys_built_in_sheet» h = rw (h .told) (flat-demand-1 _ tt refl)
 
 -- ---- air
-pub demand-1-gaskeys_air_heat : (mk : ℤ) (r : ReadingTold) → r ≡ flatReading (airHeatTold mk) → FlatDemand1 (6 when outside (pos 200000) (pos 2000000) mk ∷ []) (r .refusal) (r .row)
+pub demand-1-gaskeys_air_heat : (mk : ℤ) (r : ReadingTold) → r ≡ flatReading (airHeatTold mk) → FlatDemand1 (6 when outside (pos 200000) (pos 2000000) mk ∷ []) (r .refusal) (r .row) (r .placed)
 demand-1-gaskeys_air_heat mk r e = rw e (flat-demand-1 _ _ refl)
 
-pub demand-1-gaskeys_air_psi : (mk : ℤ) (r : ReadingTold) → r ≡ flatReading (airPsiTold mk) → FlatDemand1 (6 when outside (pos 200000) (pos 2000000) mk ∷ []) (r .refusal) (r .row)
+pub demand-1-gaskeys_air_psi : (mk : ℤ) (r : ReadingTold) → r ≡ flatReading (airPsiTold mk) → FlatDemand1 (6 when outside (pos 200000) (pos 2000000) mk ∷ []) (r .refusal) (r .row) (r .placed)
 demand-1-gaskeys_air_psi mk r e = rw e (flat-demand-1 _ _ refl)
 
-pub demand-1-gaskeys_air_cp : (kelvin : ℤ) (r : ReadingTold) → r ≡ flatReading (airCpTold kelvin) → FlatDemand1 (6 when outside (pos 200) (pos 2000) kelvin ∷ []) (r .refusal) (r .row)
+pub demand-1-gaskeys_air_cp : (kelvin : ℤ) (r : ReadingTold) → r ≡ flatReading (airCpTold kelvin) → FlatDemand1 (6 when outside (pos 200) (pos 2000) kelvin ∷ []) (r .refusal) (r .row) (r .placed)
 demand-1-gaskeys_air_cp kelvin r e = rw e (flat-demand-1 _ _ refl)
 
-pub demand-1-gaskeys_psi_inverse : {target : ℤ} {before after : List ℕ} {r : PsiTold} → PsiIs target before r after → FlatDemand1 (psiOrder (length before) target) (r .refusal) (r .row)
+pub demand-1-gaskeys_psi_inverse : {target : ℤ} {before after : List ℕ} {r : PsiTold} → PsiIs target before r after → FlatDemand1 (psiOrder (length before) target) (r .refusal) (r .row) (r .placed)
 demand-1-gaskeys_psi_inverse h = rw (h .told) (flat-demand-1 _ _ refl)
 
 -- ---- the gas
 module _ (w : Weights) (ch : Charge) where
-  pub demand-1-gaskeys_burn : (r : BurnTold) → r ≡ flatBurn (burnTold w ch) → FlatDemand1 (chargeLines w ch) (r .refusal) (r .row)
+  pub demand-1-gaskeys_burn : (r : BurnTold) → r ≡ flatBurn (burnTold w ch) → FlatDemand1 (chargeLines w ch) (r .refusal) (r .row) (r .placed)
   demand-1-gaskeys_burn r e = rw e (flat-demand-1 _ _ refl)
 
   module _ (mk : ℤ) (s : List ℕ) where
-    pub demand-1-gaskeys_gas_heat : (r : HeatTold) → r ≡ flatHeat (heatTold w ch mk s) → FlatDemand1 (heatOrder w ch mk s) (r .refusal) (r .row)
+    pub demand-1-gaskeys_gas_heat : (r : HeatTold) → r ≡ flatHeat (heatTold w ch mk s) → FlatDemand1 (heatOrder w ch mk s) (r .refusal) (r .row) (r .placed)
     demand-1-gaskeys_gas_heat r e = rw e (flat-demand-1 _ _ refl)
 
-    pub demand-1-gaskeys_content : (r : HeatTold) → r ≡ flatHeat (contentTold w ch mk s) → FlatDemand1 (heatOrder w ch mk s) (r .refusal) (r .row)
+    pub demand-1-gaskeys_content : (r : HeatTold) → r ≡ flatHeat (contentTold w ch mk s) → FlatDemand1 (heatOrder w ch mk s) (r .refusal) (r .row) (r .placed)
     demand-1-gaskeys_content r e = rw e (flat-demand-1 _ _ refl)
 
-    pub demand-1-gaskeys_specific_content : (r : HeatTold) → r ≡ flatHeat (specificTold w ch mk s) → FlatDemand1 (heatOrder w ch mk s) (r .refusal) (r .row)
+    pub demand-1-gaskeys_specific_content : (r : HeatTold) → r ≡ flatHeat (specificTold w ch mk s) → FlatDemand1 (heatOrder w ch mk s) (r .refusal) (r .row) (r .placed)
     demand-1-gaskeys_specific_content r e = rw e (flat-demand-1 _ _ refl)
 
   pub demand-1-gaskeys_temperature : {target : ℤ} {s before after : List ℕ} {r : TemperatureTold} → TemperatureIs w ch target s before r after
-      → FlatDemand1 (searchOrder w ch s (length before) ++ unreached (gasHeat w s (gasOf ch)) target) (r .refusal) (r .row)
+      → FlatDemand1 (searchOrder w ch s (length before) ++ unreached (gasHeat w s (gasOf ch)) target) (r .refusal) (r .row) (r .placed)
   demand-1-gaskeys_temperature h = rw (h .told) (flat-demand-1 _ _ refl)
 
 -- ---- figures and marks
-pub demand-1-gaskeys_station : (ch : Charge) (mk : ℤ) (s : List ℕ) (r : StationTold) → r ≡ flatStation (stationTold ch mk s) → FlatDemand1 (heatOrder document01 ch mk s) (r .refusal) (r .row)
+pub demand-1-gaskeys_station : (ch : Charge) (mk : ℤ) (s : List ℕ) (r : StationTold) → r ≡ flatStation (stationTold ch mk s) → FlatDemand1 (heatOrder document01 ch mk s) (r .refusal) (r .row) (r .placed)
 demand-1-gaskeys_station ch mk s r e = rw e (flat-demand-1 _ _ refl)
 
 pub demand-1-gaskeys_mark : (kind : ℕ) (x : Float) (key window : ℤ) (r : MarkTold) → r ≡ flatMark (marked (typedOf kind x) key window)
-    → FlatDemand1 (markOrder (typedOf kind x) key window) (r .refusal) (r .row)
+    → FlatDemand1 (markOrder (typedOf kind x) key window) (r .refusal) (r .row) (r .placed)
 demand-1-gaskeys_mark kind x key window r e = rw e (flat-demand-1 _ _ refl)
 
 -- ---- the walk
-unbegun : (l : Line) → flatWalk (course (toldBy l)) ≡ flatUnbegun (lineNumber l) (lineRow l)
-unbegun (n when c) = refl
-unbegun (n on-row r when c) = refl
-
 begun : (n : ℕ) (e : End) → flatWalk (gives (courseOf n e)) .begun ≡ 1
 begun n (ended st) = refl
 begun n (cut m st) = refl
@@ -139,9 +131,9 @@ module _ (lines : List Line) (w : Weights) (s : List ℕ) (start : Charge) (from
   abbrev T : Trace
   T = run w s (startState start from) (stepsOf (length numbers / width) numbers)
 
-  refused-start : (m : Line) → First order m → o ≡ flatUnbegun (lineNumber m) (lineRow m)
+  refused-start : (m : Line) → First order m → o ≡ flatUnbegun (lineNumber m) (lineRow m) (linePlaced m)
   unfolding walked
-  refused-start m f = h .answer ∙ ap (λ (x : Told Trace). flatWalk (course x)) (refusal-given T f) ∙ unbegun m
+  refused-start m f = h .answer ∙ ap (λ (x : Told Trace). flatWalk (course x)) (refusal-given T f)
 
   begun-start : Clear order → o .begun ≡ 1
   unfolding walked
@@ -149,12 +141,12 @@ module _ (lines : List Line) (w : Weights) (s : List ℕ) (start : Charge) (from
 
   pub demand-1-gaskeys_walk : WalkDemand1 order o
   demand-1-gaskeys_walk = record {
-    refused-with = λ n k. (
+    refused-with = λ n k p. (
       λ e. ⊎-elim
-          (λ m. let q = refused-start (m .0) (m .1) in (m .0, m .1, sym (ap (λ (x : WalkTold). x .refusal) q) ∙ e .1, sym (ap (λ (x : WalkTold). x .row) q) ∙ e .2))
+          (λ m. let q = refused-start (m .0) (m .1) in (m .0, m .1, sym (ap (λ (x : WalkTold). x .refusal) q) ∙ e .1, sym (ap (λ (x : WalkTold). x .row) q) ∙ e .2, sym (ap (λ (x : WalkTold). x .placed) q) ∙ e .3))
           (λ c. absurd (let z : _≡_ {A = ℕ} 0 1 = sym (e .0) ∙ begun-start c in omega arith))
           (first-or-clear order),
-      λ m. let q = refused-start (m .0) (m .1) in (ap (λ (x : WalkTold). x .begun) q, ap (λ (x : WalkTold). x .refusal) q ∙ m .2, ap (λ (x : WalkTold). x .row) q ∙ m .3),
+      λ m. let q = refused-start (m .0) (m .1) in (ap (λ (x : WalkTold). x .begun) q, ap (λ (x : WalkTold). x .refusal) q ∙ m .2, ap (λ (x : WalkTold). x .row) q ∙ m .3, ap (λ (x : WalkTold). x .placed) q ∙ m .4),
     );
     began = (
       λ e. ⊎-elim (λ m. absurd (let z : _≡_ {A = ℕ} 0 1 = sym (ap (λ (x : WalkTold). x .begun) (refused-start (m .0) (m .1))) ∙ e in omega arith)) (λ c. c) (first-or-clear order),

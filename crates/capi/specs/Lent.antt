@@ -4,7 +4,7 @@ use mathlib.Core.Path.{_≡_}
 use Prim.Native.Nat.{ℕ}
 use lib.IntN.{ℤ}
 use lib.ListN.{length}
-use Rattle.air.specs.Refusals.{Told, gives, refuses, refusesRow, _when_, first}
+use Rattle.refusal.specs.Refusals.{Told, gives, refused, _when_, first}
 use Rattle.air.specs.Inverse.{looks, written}
 use Rattle.air.specs.Answers.{psiValue, psiInverseTold}
 use Rattle.sheet.specs.Sheet.{notLong}
@@ -25,8 +25,7 @@ use Rattle.capi.specs.Flat.{flatSheet, flatTemperature, flatPsi, flatWal
 -- the list of a sheet after a call that fills it: all numbers of the sheet, and unchanged by a refusal
 abbrev pub listTold : Told (Unit {0}) → List ℕ → List ℕ → List ℕ
 listTold (gives a) numbers before = numbers
-listTold (refuses n) numbers before = before
-listTold (refusesRow n r) numbers before = before
+listTold (refused r) numbers before = before
 
 pub record SheetIs (text before : List ℕ) (r : SheetTold) (later : List ℕ) : Type 0 where
   pub form : Form text

@@ -1,5 +1,5 @@
 // The calls for C and Rust: numbers and lent lists in, one struct by value out. Each takes every input and asks the entry of the same name; its promise is that entry's,
-// with the answer set out as a struct: 0 or the refusal's number, the row of refusals 2 and 3, the values, and 0 in every field that a case does not have
+// with the answer set out as a struct: 0 or the refusal's number, its row and whether it has one, the values, and 0 in every field that a case does not have
 // (specs/Flat.antt). Lent lists hold on return what the entry promises (specs/Lent.antt). Two have no entry below: the built-in sheet put into a list, and the version.
 // include/gaskeys.h has the same calls for a reader of C.
 mod telling;
@@ -7,6 +7,8 @@ mod telling;
 use air::Millikelvin;
 use gas::Charge;
 use gas::Heat;
+use refusal::Refusal;
+use sheet::SheetAnswer;
 ghost use mathlib.Core.Path.{_≡_};
 ghost use lib.ListN.{length};
 ghost use Rattle.air.specs.Answers.{heatTold as airHeatTold, psiTold as airPsiTold, cpTold as airCpTold};
@@ -20,13 +22,14 @@ ghost use Rattle.capi.specs.Flat.{flatSheet, flatBurn, flatHeat, flatRea
 ghost use Rattle.capi.specs.Lent.{SheetIs, BuiltInIs, TemperatureIs, PsiIs, WalkIs};
 
 // up by one where a list or a struct changes its meaning
-const VERSION: u32 = 1;
+const VERSION: u32 = 2;
 
 // What the calls that read, judge or give a sheet tell.
 #[repr(C)]
 pub struct SheetTold {
     pub refusal: u32,
     pub row: u32,
+    pub placed: u32,
 }
 
 // What a charge burns to, in mg.
@@ -34,6 +37,7 @@ pub struct SheetTold {
 pub struct BurnTold {
     pub refusal: u32,
     pub row: u32,
+    pub placed: u32,
     pub co2: u64,
     pub h2o: u64,
     pub o2: u64,
@@ -46,6 +50,7 @@ pub struct BurnTold {
 pub struct HeatTold {
     pub refusal: u32,
     pub row: u32,
+    pub placed: u32,
     pub heat: i64,
 }
 
@@ -54,6 +59,7 @@ pub struct HeatTold {
 pub struct ReadingTold {
     pub refusal: u32,
     pub row: u32,
+    pub placed: u32,
     pub reading: u64,
 }
 
@@ -62,6 +68,7 @@ pub struct ReadingTold {
 pub struct TemperatureTold {
     pub refusal: u32,
     pub row: u32,
+    pub placed: u32,
     pub millikelvin: i64,
     pub rest: i64,
 }
@@ -71,6 +78,7 @@ pub struct TemperatureTold {
 pub struct PsiTold {
     pub refusal: u32,
     pub row: u32,
+    pub placed: u32,
     pub millikelvin: i64,
     pub rest: u64,
 }
@@ -80,6 +88,7 @@ pub struct PsiTold {
 pub struct WalkTold {
     pub refusal: u32,
     pub row: u32,
+    pub placed: u32,
     pub begun: u32,
     pub steps: u32,
     pub air: i64,
@@ -93,6 +102,7 @@ pub struct WalkTold {
 pub struct StationTold {
     pub refusal: u32,
     pub row: u32,
+    pub placed: u32,
     pub millikelvin: f64,
     pub content: f64,
     pub mass: f64,
@@ -103,13 +113,14 @@ pub struct StationTold {
 pub struct MarkTold {
     pub refusal: u32,
     pub row: u32,
+    pub placed: u32,
     pub counts: u32,
 }
 
 // The version of these calls. The symbol has it in its name, so that what was compiled for another version does not link.
 #[no_mangle]
-pub extern "C" fn gaskeys_version_1() -> u32
-    ensures { λ r. ⌜ r ≡ 1 ⌝ }
+pub extern "C" fn gaskeys_version_2() -> u32
+    ensures { λ r. ⌜ r ≡ 2 ⌝ }
 {
     VERSION
 }
@@ -136,14 +147,15 @@ pub extern "C" fn gaskeys_built_in_sheet(list: &mut [u32]) -> SheetTold
     ensures { λ r. ⌜ BuiltInIs (now (list .entry)) r (now (list .exit)) ⌝ }
 {
     if list.len() != 5403 {
-        return SheetTold {
-            refusal: sheet::LIST_LENGTH,
-            row: 0,
-        };
+        return telling::tell_sheet(SheetAnswer::Refused(Refusal::Plain(sheet::LIST_LENGTH)));
     }
     let numbers = built_in::sheet();
     sheet::inner::copy(&numbers, list);
-    SheetTold { refusal: 0, row: 0 }
+    SheetTold {
+        refusal: 0,
+        row: 0,
+        placed: 0,
+    }
 }
 
 // The heat of air per pound at a temperature, in 0.00001 C.H.U./lb.

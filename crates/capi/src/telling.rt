@@ -11,7 +11,6 @@ use crate::WalkTold;
 use air::Millikelvin;
 use air::PsiAnswer;
 use air::Reading;
-use air::Refusal;
 use gas::BurnAnswer;
 use gas::Charge;
 use gas::HeatAnswer;
@@ -20,35 +19,39 @@ use gas::TemperatureAnswer;
 use marking::MarkAnswer;
 use marking::StationAnswer;
 use marking::Typed;
+use refusal::Refusal;
 use sheet::SheetAnswer;
 use walk::WalkAnswer;
 ghost use mathlib.Core.Path.{_≡_};
-ghost use Rattle.air.specs.Refusals.{refused};
+ghost use Rattle.refusal.specs.Refusals.{refused};
 ghost use Rattle.air.specs.Answers.{paperReading, paperPsi};
 ghost use Rattle.sheet.specs.Answers.{paper as paperSheet};
 ghost use Rattle.gas.specs.Answers.{paperBurn, paperHeat, paperSpecific, paperTemperature};
 ghost use Rattle.walk.specs.Walk.{paperWalk};
 ghost use Rattle.marking.specs.Marking.{paper as paperMark};
 ghost use Rattle.marking.specs.Figures.{paperStation};
-ghost use Rattle.capi.specs.Flat.{numberIn, rowIn, flatSheet, flatReading, flatBurn, flatHeat, flatTemperature, flatPsi, flatWalk, flatBegun, flatStation, flatMark, typedOf};
+ghost use Rattle.capi.specs.Flat.{rowIn, placedIn, flatSheet, flatReading, flatBurn, flatHeat, flatTemperature, flatPsi, flatWalk, flatBegun, flatStation, flatMark, typedOf};
 
-// The number of a refusal.
-fn number_of(r: Refusal) -> u32
-    ensures { λ n. ⌜ n ≡ numberIn r ⌝ }
-{
-    match r {
-        Refusal::Plain(number) => number,
-        Refusal::AtRow(number, _) => number,
-    }
-}
+// what stands in `row` where there is none
+const NO_ROW: u32 = 0;
 
-// The row of a refusal, 0 where it has none.
+// The row of a refusal.
 fn row_of(r: Refusal) -> u32
     ensures { λ n. ⌜ n ≡ rowIn r ⌝ }
 {
     match r {
+        Refusal::Plain(_) => NO_ROW,
+        Refusal::At(_, row) => row,
+    }
+}
+
+// Whether a refusal has a row: 1, else 0.
+fn placed_of(r: Refusal) -> u32
+    ensures { λ n. ⌜ n ≡ placedIn r ⌝ }
+{
+    match r {
         Refusal::Plain(_) => 0,
-        Refusal::AtRow(_, row) => row,
+        Refusal::At(_, _) => 1,
     }
 }
 
@@ -57,10 +60,15 @@ pub(crate) fn tell_sheet(answer: SheetAnswer) -> SheetTold
     ensures { λ r. ⌜ r ≡ flatSheet (paperSheet answer) ⌝ }
 {
     match answer {
-        SheetAnswer::Good => SheetTold { refusal: 0, row: 0 },
+        SheetAnswer::Good => SheetTold {
+            refusal: 0,
+            row: NO_ROW,
+            placed: 0,
+        },
         SheetAnswer::Refused(r) => SheetTold {
-            refusal: number_of(r),
+            refusal: refusal::number_of(r),
             row: row_of(r),
+            placed: placed_of(r),
         },
     }
 }
@@ -72,12 +80,14 @@ pub(crate) fn tell_reading(answer: Reading) -> ReadingTold
     match answer {
         Reading::Is(reading) => ReadingTold {
             refusal: 0,
-            row: 0,
+            row: NO_ROW,
+            placed: 0,
             reading,
         },
         Reading::Refused(r) => ReadingTold {
-            refusal: number_of(r),
+            refusal: refusal::number_of(r),
             row: row_of(r),
+            placed: placed_of(r),
             reading: 0,
         },
     }
@@ -90,7 +100,8 @@ pub(crate) fn tell_burn(answer: BurnAnswer) -> BurnTold
     match answer {
         BurnAnswer::Is(products) => BurnTold {
             refusal: 0,
-            row: 0,
+            row: NO_ROW,
+            placed: 0,
             co2: products.co2,
             h2o: products.h2o,
             o2: products.o2,
@@ -98,8 +109,9 @@ pub(crate) fn tell_burn(answer: BurnAnswer) -> BurnTold
             ar: products.ar,
         },
         BurnAnswer::Refused(r) => BurnTold {
-            refusal: number_of(r),
+            refusal: refusal::number_of(r),
             row: row_of(r),
+            placed: placed_of(r),
             co2: 0,
             h2o: 0,
             o2: 0,
@@ -114,8 +126,9 @@ fn no_heat(r: Refusal) -> HeatTold
     ensures { λ t. ⌜ t ≡ flatHeat (refused r) ⌝ }
 {
     HeatTold {
-        refusal: number_of(r),
+        refusal: refusal::number_of(r),
         row: row_of(r),
+        placed: placed_of(r),
         heat: 0,
     }
 }
@@ -127,7 +140,8 @@ pub(crate) fn tell_heat(answer: HeatAnswer) -> HeatTold
     match answer {
         HeatAnswer::Is(heat) => HeatTold {
             refusal: 0,
-            row: 0,
+            row: NO_ROW,
+            placed: 0,
             heat: heat.0,
         },
         HeatAnswer::Refused(r) => no_heat(r),
@@ -141,7 +155,8 @@ pub(crate) fn tell_specific(answer: SpecificAnswer) -> HeatTold
     match answer {
         SpecificAnswer::Is(heat) => HeatTold {
             refusal: 0,
-            row: 0,
+            row: NO_ROW,
+            placed: 0,
             heat,
         },
         SpecificAnswer::Refused(r) => no_heat(r),
@@ -155,13 +170,15 @@ pub(crate) fn tell_temperature(answer: TemperatureAnswer) -> TemperatureTold
     match answer {
         TemperatureAnswer::At(t, rest) => TemperatureTold {
             refusal: 0,
-            row: 0,
+            row: NO_ROW,
+            placed: 0,
             millikelvin: t.0,
             rest: rest.0,
         },
         TemperatureAnswer::Refused(r) => TemperatureTold {
-            refusal: number_of(r),
+            refusal: refusal::number_of(r),
             row: row_of(r),
+            placed: placed_of(r),
             millikelvin: 0,
             rest: 0,
         },
@@ -175,13 +192,15 @@ pub(crate) fn tell_psi(answer: PsiAnswer) -> PsiTold
     match answer {
         PsiAnswer::At(t, rest) => PsiTold {
             refusal: 0,
-            row: 0,
+            row: NO_ROW,
+            placed: 0,
             millikelvin: t.0,
             rest,
         },
         PsiAnswer::Refused(r) => PsiTold {
-            refusal: number_of(r),
+            refusal: refusal::number_of(r),
             row: row_of(r),
+            placed: placed_of(r),
             millikelvin: 0,
             rest: 0,
         },
@@ -194,7 +213,8 @@ fn tell_begun(refusal: u32, steps: u32, charge: Charge, t: Millikelvin) -> WalkT
 {
     WalkTold {
         refusal,
-        row: 0,
+        row: NO_ROW,
+        placed: 0,
         begun: 1,
         steps,
         air: charge.air,
@@ -212,8 +232,9 @@ pub(crate) fn tell_walk(answer: WalkAnswer) -> WalkTold
         WalkAnswer::Done(steps, charge, t) => tell_begun(0, steps, charge, t),
         WalkAnswer::Stopped(steps, number, charge, t) => tell_begun(number, steps, charge, t),
         WalkAnswer::Refused(r) => WalkTold {
-            refusal: number_of(r),
+            refusal: refusal::number_of(r),
             row: row_of(r),
+            placed: placed_of(r),
             begun: 0,
             steps: 0,
             air: 0,
@@ -231,14 +252,16 @@ pub(crate) fn tell_station(answer: StationAnswer) -> StationTold
     match answer {
         StationAnswer::Is(figures) => StationTold {
             refusal: 0,
-            row: 0,
+            row: NO_ROW,
+            placed: 0,
             millikelvin: figures.millikelvin,
             content: figures.content,
             mass: figures.mass,
         },
         StationAnswer::Refused(r) => StationTold {
-            refusal: number_of(r),
+            refusal: refusal::number_of(r),
             row: row_of(r),
+            placed: placed_of(r),
             millikelvin: 0.0,
             content: 0.0,
             mass: 0.0,
@@ -266,17 +289,20 @@ pub(crate) fn tell_mark(answer: MarkAnswer) -> MarkTold
     match answer {
         MarkAnswer::Counts => MarkTold {
             refusal: 0,
-            row: 0,
+            row: NO_ROW,
+            placed: 0,
             counts: 1,
         },
         MarkAnswer::Misses => MarkTold {
             refusal: 0,
-            row: 0,
+            row: NO_ROW,
+            placed: 0,
             counts: 0,
         },
         MarkAnswer::Refused(r) => MarkTold {
-            refusal: number_of(r),
+            refusal: refusal::number_of(r),
             row: row_of(r),
+            placed: placed_of(r),
             counts: 0,
         },
     }

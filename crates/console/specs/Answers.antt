@@ -10,7 +10,7 @@ use Rattle.text.specs.declared.Whole.the-variants.{Is, Not}
 use Rattle.fields.specs.declared.Three.{Three}
 use Rattle.fields.specs.declared.Three.the-variants.{Are as AreThree, Not as NotThree}
 use Rattle.fields.specs.Fields.{fieldsOf, holdsReturn, oneOf, threeOf, fourOf}
-use Rattle.air.specs.Refusals.{first}
+use Rattle.refusal.specs.Refusals.{first}
 use Rattle.air.specs.Inverse.{looks}
 use Rattle.air.specs.Answers.{heatTold as airHeatTold, psiTold, cpTold, psiValue, psiInverseTold}
 use Rattle.sheet.specs.Sheet.{Accepted}

@@ -7,7 +7,7 @@ use lib.Dec.{lit≤}
 use lib.IntN.{ℤ, pos}
 use lib.ListN.{replicate}
 use Rattle.text.specs.Decimal.{decimal}
-use Rattle.air.specs.declared.Refusal.the-variants.{AtRow}
+use Rattle.refusal.specs.declared.Refusal.the-variants.{At}
 use Rattle.signed.specs.Zed.{inZ}
 use Rattle.sheet.specs.Sheet.{Accepted}
 use Rattle.sheet.specs.AnswersLaws.{past-sheet}
@@ -38,6 +38,6 @@ module _ {s : List ℕ} (ok : Accepted s) where
   header-alone =
       ap printedWalk (past-sheet (startLines document01 (charge 1 0 0) (pos 200000) 0 64 64 704) (record { outs = []; end = ended (startState (charge 1 0 0) (pos 200000)) }) ok)
 
-pub refused-page : (s : List ℕ) (ch : Charge) (mk : ℤ) (numbers : List ℤ) (row : ℕ) → printedWalk (walkTold (Refused (AtRow 3 row)) s ch mk numbers) ≡ headerText ++ refusedLine 3
+pub refused-page : (s : List ℕ) (ch : Charge) (mk : ℤ) (numbers : List ℤ) (row : ℕ) → printedWalk (walkTold (Refused (At 3 row)) s ch mk numbers) ≡ headerText ++ refusedLine 3
 unfolding printedWalk
 refused-page s ch mk numbers row = refl

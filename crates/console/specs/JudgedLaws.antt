@@ -13,8 +13,8 @@ use Rattle.signed.specs.Zed.{up}
 use Rattle.fields.specs.Fields.{fieldsOf, holdsReturn, fourOf, valuesOf, countAll}
 use Rattle.fields.specs.declared.Four.{Four}
 use Rattle.fields.specs.declared.Four.the-variants.{Are, Not}
-use Rattle.air.specs.declared.Refusal.{Refusal}
-use Rattle.air.specs.Refusals.{Told, Line, _when_, first}
+use Rattle.refusal.specs.declared.Refusal.{Refusal}
+use Rattle.refusal.specs.Refusals.{Told, Line, _when_, first}
 use Rattle.sheet.specs.Sheet.{Accepted}
 use Rattle.sheet.specs.Answers.{paper, judgeTold, sheetLines}
 use Rattle.sheet.specs.AnswersLaws.{past-sheet, stopped-by-sheet, accepted-of-told}
@@ -36,7 +36,6 @@ use Rattle.console.specs.Requests.{requestOf, askedOf, returnText}
 use Rattle.wording.specs.Texts.{refusalText, toldText, foundText, valueText, wholeText, figuresText}
 use Rattle.console.specs.Answers.{gasText, gasReply, replyText, answerFields, lineText, answerOf, judgedAfter, Judged, ofList, ofText, Ready}
 use Rattle.console.specs.Walks.{walkTold, walkText, startOf, walkOf, printedWalk}
-use Rattle.wording.specs.TextsLaws.{told-refused}
 
 -- past an accepted sheet: 4, 5 and 6 of a heat, and 4 and 5 of a search with eleven places
 module _ {s : List ℕ} (accepted : Accepted s) (w : Weights) (ch : Charge) where
@@ -64,7 +63,7 @@ ready s Not verdict j = tt
 -- a list that is refused is refused by every call
 module _ (s : List ℕ) (r : Refusal) (e : paper (Refused r) ≡ judgeTold s) where
   refusal-is : {A : Type 0} (values : A → List ℕ) (ls : List Line) (a : A) → refusalText r ≡ toldText values (first (sheetLines s ++ ls) a)
-  refusal-is values ls a = sym (ap (toldText values) (stopped-by-sheet s r ls a e) ∙ told-refused values r)
+  refusal-is values ls a = sym (ap (toldText values) (stopped-by-sheet s r ls a e))
 
   module _ (ch : Charge) (n : ℤ) where
     heat-refused : (value : ℤ) → refusalText r ≡ wholeText (first (heatOrder document01 ch n s) value)

@@ -32,11 +32,13 @@ use Rattle.air.specs.Halving.{halving}
 use Rattle.air.specs.HalvingLaws.{halving-ind}
 use Rattle.air.specs.Inverse.{fits, temperature, rest, looks, unreached, found}
 use Rattle.air.specs.InverseLaws.{looks-most, temperature-most, temperature-least, rest-least}
-use Rattle.air.specs.Refusals.{Told, gives, refuses, refusesRow, Line, _when_, _on-row_when_, first, Clear, clear, none as nothing, andThen}
-use Rattle.air.specs.RefusalsLaws.{neither, gives-clear, values-given}
-use Rattle.air.specs.OrdersLaws.{clear-left, clear-right}
+use Rattle.refusal.specs.Refusals.{numberOf as refusalNumber, Told, gives, refused, refuses, refusesAt, Line, _when_, _at-place_when_, first, Clear, clear, andThen}
+use Rattle.refusal.specs.BoolLaws.{neither}
+use Rattle.refusal.specs.RefusalsLaws.{gives-clear, values-given}
+use Rattle.refusal.specs.OrdersLaws.{clear-left, clear-right}
 use Rattle.air.specs.Answers.{psiValue, psiOrder}
-use Rattle.air.specs.declared.Refusal.the-variants.{Plain, AtRow}
+use Rattle.refusal.specs.declared.Refusal.{Refusal}
+use Rattle.refusal.specs.declared.Refusal.the-variants.{Plain, At}
 use Rattle.wording.specs.Texts.{okText, fieldsText, refusalText, toldText, countedText, foundText, valueText, figuresText, productsText, burntText, verdictText, stateText, courseText}
 use Rattle.text.specs.ReadingLaws.{and-left, and-right}
 use Rattle.sheet.specs.Sheet.{Accepted, notLong, firstBadRow}
@@ -149,24 +151,30 @@ counted-most v t =
 data Few : List Line → Type 0 where
   few-none : Few []
   plain : {n : ℕ} {c : Bool} {ls : List Line} → n < 100 → Few ls → Few (n when c ∷ ls)
-  row : {n r : ℕ} {c : Bool} {ls : List Line} → n < 100 → (c ≡ true → r < 10000) → Few ls → Few (n on-row r when c ∷ ls)
+  row : {n r : ℕ} {c : Bool} {ls : List Line} → n < 100 → (c ≡ true → r < 10000) → Few ls → Few (n at-place r when c ∷ ls)
 
 few-append : {ls ms : List Line} → Few ls → Few ms → Few (ls ++ ms)
 few-append few-none g = g
 few-append (plain h f) g = plain h (few-append f g)
 few-append (row h k f) g = row h k (few-append f g)
 
-plain-most : (n : ℕ) → n < 100 → length (refusalText (Plain n)) ≤ 10
-plain-most n h = omega (arith, small-most n h)
+-- the number of a refusal, and its row where it has one, are small
+abbrev SmallRefusal : Refusal → Type 0
+SmallRefusal (Plain n) = n < 100
+SmallRefusal (At n r) = (n < 100) × (r < 10000)
 
-row-text-most : (n r : ℕ) → n < 100 → r < 10000 → length (refusalText (AtRow n r)) ≤ 15
-row-text-most n r h k = let e = length-append (decimal n) (9 ∷ decimal r) in omega (arith, small-most n h, row-most r k)
+refusal-most : (r : Refusal) → SmallRefusal r → length (refusalText r) ≤ 15
+refusal-most (Plain n) h = omega (arith, small-most n h)
+refusal-most (At n r) h = let e = length-append (decimal n) (9 ∷ decimal r) in omega (arith, small-most n (h .0), row-most r (h .1))
 
--- the number of a refusal that is told, and its row where it has one, are small
+number-small : (r : Refusal) → SmallRefusal r → refusalNumber r < 100
+number-small (Plain n) h = h
+number-small (At n r) h = h .0
+
+-- and so is one that is told
 abbrev Small : {A : Type 0} → Told A → Type 0
 Small (gives a) = Unit {0}
-Small (refuses n) = n < 100
-Small (refusesRow n r) = (n < 100) × (r < 10000)
+Small (refused r) = SmallRefusal r
 
 small-first : {A : Type 0} (ls : List Line) (a : A) → Few ls → Small (first ls a)
 small-first [] a few-none = tt
@@ -175,9 +183,9 @@ small-first {A} (n when c ∷ ls) a (plain h f) = go c (small-first ls a f)
     go : (b : Bool) → Small (first {A = A} ls a) → Small (cond b (refuses n) (first {A = A} ls a))
     go true i = h
     go false i = i
-small-first {A} (n on-row r when c ∷ ls) a (row h k f) = go c refl (small-first ls a f)
+small-first {A} (n at-place r when c ∷ ls) a (row h k f) = go c refl (small-first ls a f)
   where
-    go : (b : Bool) → c ≡ b → Small (first {A = A} ls a) → Small (cond b (refusesRow n r) (first {A = A} ls a))
+    go : (b : Bool) → c ≡ b → Small (first {A = A} ls a) → Small (cond b (refusesAt n r) (first {A = A} ls a))
     go true e i = (h, k e)
     go false e i = i
 
@@ -190,8 +198,7 @@ told-most {A} values k ls a h f v = go (first ls a) refl
   where
     go : (t : Told A) → first ls a ≡ t → length (toldText values t) ≤ k
     go (gives b) e = let c = gives-clear ls {a = a} {b = b} e in subst (λ (x : A). length (values x) ≤ k) (c .1) (v (c .0))
-    go (refuses n) e = omega (arith, plain-most n (small-told ls a f e))
-    go (refusesRow n r) e = let m = small-told ls a f e in omega (arith, row-text-most n r (m .0) (m .1))
+    go (refused r) e = omega (arith, refusal-most r (small-told ls a f e))
 
 few-sheet : (s : List ℕ) → Few (sheetLines s)
 few-sheet s = plain (lit< tt) (row {r = firstBadRow s} {c = ltb (firstBadRow s) 1801} (lit< tt) (λ e. omega (arith, ltb-true (firstBadRow s) 1801 e)) few-none)
@@ -392,8 +399,7 @@ Brief (SheetRefused r) = length (refusalText r) ≤ 8191
 
 brief-told : (ls : List Line) → Few ls → (verdict : SheetAnswer) → paper verdict ≡ first ls tt → Brief verdict
 brief-told ls f Good e = tt
-brief-told ls f (SheetRefused (Plain n)) e = omega (arith, plain-most n (small-told ls tt f (sym e)))
-brief-told ls f (SheetRefused (AtRow n i)) e = let g = small-told ls tt f (sym e) in omega (arith, row-text-most n i (g .0) (g .1))
+brief-told ls f (SheetRefused r) e = omega (arith, refusal-most r (small-told ls tt f (sym e)))
 
 -- and so is every verdict of the judge of a list and of the reader of a text
 pub judge-brief : (s : List ℕ) (verdict : SheetAnswer) → paper verdict ≡ judgeTold s → Brief verdict
@@ -401,7 +407,7 @@ judge-brief s verdict e = brief-told (sheetLines s) (few-sheet s) verdict e
 
 pub read-brief : {text before later : List ℕ} (verdict : SheetAnswer) → SheetRead text before verdict later → Brief verdict
 read-brief {text} {before} verdict r =
-    brief-told (1 when notLong before ∷ 2 on-row badRowOf (r .form) when breaks (r .form) ∷ [])
+    brief-told (1 when notLong before ∷ 2 at-place badRowOf (r .form) when breaks (r .form) ∷ [])
     (plain (lit< tt) (row {r = badRowOf (r .form)} {c = breaks (r .form)} (lit< tt) (row-few (r .form)) few-none)) verdict (r .told)
   where
     row-few : (form : Form text) → breaks form ≡ true → badRowOf form < 10000
@@ -497,8 +503,7 @@ module _ {s : List ℕ} (ok : Accepted s) where
       go : (x : Told Asked) → first (askLines document01 (st .gas) p) (stepAsked document01 s (held document01 s st) (st .gas) p) ≡ x
           → Small (andThen x (λ a. first (unreached (gasHeat document01 s (a .gas)) (a .target)) (outOf document01 s a)))
       go (gives a) q = small-first (unreached (gasHeat document01 s (a .gas)) (a .target)) (outOf document01 s a) (plain (lit< tt) (plain (lit< tt) few-none))
-      go (refuses m) q = small-told (askLines document01 (st .gas) p) _ few q
-      go (refusesRow m i) q = small-told (askLines document01 (st .gas) p) _ few q
+      go (refused r) q = small-told (askLines document01 (st .gas) p) _ few q
 
   run-modest : (ps : List Step) (st : State) → Steady st → Runs (length ps) (run document01 s st ps)
   unfolding run
@@ -510,8 +515,7 @@ module _ {s : List ℕ} (ok : Accepted s) where
           let m = done-modest st p o (step-done document01 s st p o e) in
           let r = i (o .state) (m .1) in
           record { outs = one-more (m .0) (r .outs); end = r .end; count = let c = r .count in omega arith }
-      go (refuses n) e i = record { outs = none-done; end = at-step (subst (λ (t : Told Out). Small t) e (small-judged st p)) h; count = omega arith }
-      go (refusesRow n r) e i = record { outs = none-done; end = at-step (subst (λ (t : Told Out). Small t) e (small-judged st p) .0) h; count = omega arith }
+      go (refused r) e i = record { outs = none-done; end = at-step (number-small r (subst (λ (t : Told Out). Small t) e (small-judged st p))) h; count = omega arith }
 
 steps-length : (n : ℕ) (l : List ℤ) → length (stepsOf n l) ≡ n
 unfolding stepsOf
@@ -569,8 +573,7 @@ module _ (s : List ℕ) (ch : Charge) (mk : ℤ) (numbers : List ℤ) where
       let r : Runs 64 t = rw (← c .1) (began (c .0)) in
       let n = r .count in
       simp length-append (omega (arith, course-most (length (t .outs)) (t .end) n (r .end), steps-most (r .outs) 1))
-  short-told (refuses n) e = simp length-append (omega (arith, plain-most n (small-told lines course-of few-lines e)))
-  short-told (refusesRow n i) e = let f = small-told lines course-of few-lines e in simp length-append (omega (arith, simp length-append at (row-text-most n i (f .0) (f .1))))
+  short-told (refused r) e = simp length-append (omega (arith, refusal-most r (small-told lines course-of few-lines e)))
 
   short-walk : length (walkText (walkTold Good s ch mk numbers)) ≤ 8191
   unfolding walked
@@ -603,8 +606,9 @@ module _ (s : List ℕ) (ch : Charge) (mk : ℤ) (numbers : List ℤ) where
       let r : Runs 64 t = rw (← c .1) (began s ch mk numbers (c .0)) in
       let n = r .count in
       simp length-append (omega (arith, end-most (length (t .outs)) (t .end) (r .end), lines-most (r .outs) 1 (omega arith)))
-  page-told (refuses n) e = simp length-append (omega (arith, small-most n (small-told (lines s ch mk numbers) (course-of s ch mk numbers) (few-lines s ch mk numbers) e)))
-  page-told (refusesRow n i) e = simp length-append (omega (arith, small-most n (small-told (lines s ch mk numbers) (course-of s ch mk numbers) (few-lines s ch mk numbers) e .0)))
+  page-told (refused r) e =
+      let h = number-small r (small-told (lines s ch mk numbers) (course-of s ch mk numbers) (few-lines s ch mk numbers) e) in
+      simp length-append (omega (arith, small-most (refusalNumber r) h))
 
   -- no printed walk is longer than 4,096 bytes
   pub page-short : length (printedWalk (walkTold Good s ch mk numbers)) ≤ 4096
@@ -614,8 +618,7 @@ module _ (s : List ℕ) (ch : Charge) (mk : ℤ) (numbers : List ℤ) where
 short-walk-of : (verdict : SheetAnswer) → Brief verdict → (s : List ℕ) (n : Four) (zs : List ℤ) → length (walkOf verdict s n zs) ≤ 8191
 unfolding walkText
 short-walk-of Good b s (AreFour a c h n) zs = short-walk s (record { air = a; carbon = c; hydrogen = h }) n zs
-short-walk-of (SheetRefused (Plain number)) b s (AreFour a c h n) zs = subst (λ (l : List ℕ). length l ≤ 8191) (sym (append-nil (refusalText (Plain number)))) b
-short-walk-of (SheetRefused (AtRow number i)) b s (AreFour a c h n) zs = subst (λ (l : List ℕ). length l ≤ 8191) (sym (append-nil (refusalText (AtRow number i)))) b
+short-walk-of (SheetRefused r) b s (AreFour a c h n) zs = subst (λ (l : List ℕ). length l ≤ 8191) (sym (append-nil (refusalText r))) b
 short-walk-of verdict b s NotFour zs = lit≤ tt
 
 -- ---- an answer

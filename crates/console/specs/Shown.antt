@@ -4,7 +4,7 @@ use Prim.Native.Nat.{ℕ, zero, suc, _*_, _≤_}
 use mathlib.Core.List.{List, [], _++_}
 use lib.IntN.{ℤ, pos}
 use lib.ListN.{length, take, drop, getD}
-use Rattle.air.specs.Refusals.{Told, gives, refuses, refusesRow}
+use Rattle.refusal.specs.Refusals.{Told, gives, refused}
 use Rattle.walk.specs.Walk.{Trace, Course, done, stopped}
 use Rattle.console.specs.declared.walks.Layout.{Layout}
 use Rattle.console.specs.declared.walks.Layout.the-variants.{Line, Page}
@@ -15,8 +15,7 @@ use Rattle.console.specs.Walks.{stepText, walkText, headerText, endText,
 abbrev pub stepsIn : Told Course → ℕ
 stepsIn (gives (done n ch mk)) = n
 stepsIn (gives (stopped n number ch mk)) = n
-stepsIn (refuses number) = 0
-stepsIn (refusesRow number row) = 0
+stepsIn (refused r) = 0
 
 -- n steps from the first places of the lists, numbered from i on
 unfoldable pub shown : Layout → ℕ → ℕ → List ℤ → List ℤ → List ℕ → List ℕ

@@ -13,7 +13,7 @@ use Rattle.fields.specs.declared.Numbers.the-variants.{Count, Bad}
 use Rattle.fields.specs.declared.Four.{Four}
 use Rattle.fields.specs.declared.Four.the-variants.{Are, Not}
 use Rattle.fields.specs.Fields.{valuesOf, countAll}
-use Rattle.air.specs.Refusals.{Told, gives, refuses, refusesRow, refused}
+use Rattle.refusal.specs.Refusals.{Told, gives, refused, numberOf}
 use Rattle.sheet.specs.Answers.{sheetLines}
 use Rattle.sheet.specs.declared.SheetAnswer.{SheetAnswer}
 use Rattle.sheet.specs.declared.SheetAnswer.the-variants.{Good, Refused}
@@ -77,8 +77,7 @@ refusedLine number = (refusedText ++ (9 ∷ decimal number)) ++ (10 ∷ [])
 abbrev pub endText : Told Course → List ℕ
 endText (gives (done n ch mk)) = []
 endText (gives (stopped n number ch mk)) = refusedLine number
-endText (refuses number) = refusedLine number
-endText (refusesRow number row) = refusedLine number
+endText (refused r) = refusedLine (numberOf r)
 
 unfoldable pub printedWalk : Told Trace → List ℕ
 printedWalk told = (headerText ++ stepsText Page 1 (outsOf told)) ++ endText (course told)

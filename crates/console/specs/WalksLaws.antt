@@ -1,7 +1,7 @@
 -- A walk in its text: the lists that it wrote show its steps, and so many numbers as a line has are told as those that were kept. Assumes nothing.
 use Prim.Native.Nat.{ℕ, zero, suc, _+_, _-_, _*_, _/_, _%_, _≤_, _<_, min}
 use mathlib.Core.Path.{_≡_, refl, sym, _∙_, ap, ap₂}
-use mathlib.Core.Bool.{Bool, true, false, not, _||_, cond}
+use mathlib.Core.Bool.{true, not, cond, or-true}
 use mathlib.Core.List.{List, [], _∷_, _++_, append-assoc, append-nil}
 use native.Mathlib.Omega.{arith}
 use native.Mathlib.Nat.{sub-zero, add-zero}
@@ -18,10 +18,9 @@ use Rattle.fields.specs.declared.Numbers.{Numbers}
 use Rattle.fields.specs.declared.Numbers.the-variants.{Count, Bad}
 use Rattle.fields.specs.Fields.{valuesOf, countAll, Stored, heldOf}
 use Rattle.fields.specs.FieldsLaws.{count-is}
-use Rattle.air.specs.Refusals.{Told, gives, refuses, refusesRow, refused, Line as Condition, condition, toldBy, first}
-use Rattle.air.specs.declared.Refusal.{Refusal}
-use Rattle.air.specs.declared.Refusal.the-variants.{Plain, AtRow}
-use Rattle.air.specs.RefusalsLaws.{gives-clear}
+use Rattle.refusal.specs.Refusals.{Told, gives, refuses, refused, Line as Condition, condition, toldBy, first}
+use Rattle.refusal.specs.declared.Refusal.{Refusal}
+use Rattle.refusal.specs.RefusalsLaws.{gives-clear}
 use Rattle.air.specs.Halving.{eleven}
 use Rattle.air.specs.HalvingLaws.{length-eleven}
 use Rattle.air.specs.Inverse.{looks}
@@ -116,10 +115,6 @@ shown-outs layout (next {o} {os} v target e h) i t r l =
     ap₂ (λ (f g : List ℕ). stepText layout i (pos (o .state .mk)) (o .rests) (used f) ++ shown layout (suc i) (length os) (temperaturesOf os ++ t) (restsOf os ++ r) g) a b
     ∙ ap₂ (λ (f g : List ℕ). stepText layout i (pos (o .state .mk)) (o .rests) f ++ g) u (shown-outs layout h (suc i) t r l)
 
-pub none-done : (r : Refusal) → 0 ≡ stepsIn (refused r)
-none-done (Plain number) = refl
-none-done (AtRow number row) = refl
-
 -- as many steps were done as there are outputs
 steps-in : (told : Told Trace) → stepsIn (course told) ≡ length (outsOf told)
 steps-in (gives tr) = go (length (tr .outs)) (tr .end)
@@ -127,23 +122,20 @@ steps-in (gives tr) = go (length (tr .outs)) (tr .end)
     go : (n : ℕ) (end : End) → stepsIn (gives (courseOf n end)) ≡ n
     go n (ended st) = refl
     go n (cut number st) = refl
-steps-in (refuses n) = refl
-steps-in (refusesRow n r) = refl
+steps-in (refused r) = refl
 
 first-searched : (lines : List Condition) (w : Weights) (s : List ℕ) (ps : List Step) (st : State) → Searched (outsOf (first lines (run w s st ps)))
 first-searched lines w s ps st = go (first lines (run w s st ps)) refl
   where
     go : (x : Told Trace) → first lines (run w s st ps) ≡ x → Searched (outsOf x)
     go (gives tr) q = rw (← gives-clear lines q .1) (run-searched w s ps st)
-    go (refuses n) q = none
-    go (refusesRow n row) q = none
+    go (refused r) q = none
 
 pub walk-searched : (verdict : SheetAnswer) (s : List ℕ) (ch : Charge) (mk : ℤ) (numbers : List ℤ) → Searched (outsOf (walkTold verdict s ch mk numbers))
 unfolding walked
 walk-searched Good s ch mk numbers =
     first-searched (sheetLines s ++ startLines document01 ch mk (length numbers) 64 64 704) document01 s (stepsOf (length numbers / width) numbers) (startState ch mk)
-walk-searched (SheetRefused (Plain n)) s ch mk numbers = none
-walk-searched (SheetRefused (AtRow n row)) s ch mk numbers = none
+walk-searched (SheetRefused r) s ch mk numbers = none
 
 -- the lists that a walk left hold its steps, and what they show is its text
 module _ {a : WalkAnswer} {t r t′ r′ : List ℤ} {l l′ : List ℕ} (told : Told Trace) (k : Walks told t r l a t′ r′ l′) where
@@ -177,8 +169,7 @@ walks-accepted {s} ch mk numbers ok =
     sym (past-sheet (startLines document01 ch mk (length numbers) 64 64 704) (run document01 s (startState ch mk) (stepsOf (length numbers / width) numbers)) ok)
 
 pub walks-refused : (x : Refusal) (t r : List ℤ) (l : List ℕ) → Walks (refused x) t r l (Refused x) t r l
-walks-refused (Plain number) t r l = record { answer = refl; temperatures = refl; rests = refl; looks = refl }
-walks-refused (AtRow number row) t r l = record { answer = refl; temperatures = refl; rests = refl; looks = refl }
+walks-refused x t r l = record { answer = refl; temperatures = refl; rests = refl; looks = refl }
 
 -- ---- the numbers of a line
 module _ (d : ℤ) where
@@ -204,10 +195,6 @@ first-same {A} (l ∷ ls) ms ns a b e = ap (λ (x : Told A). cond (condition l) 
 module _ (lines : List Condition) (w : Weights) (s : List ℕ) (ch : Charge) (mk : ℤ) (a b c : ℕ) where
   wrong-many : (n : ℕ) → 256 < n → wrongSteps n ≡ true
   wrong-many n h = rw (lt-ltb 256 n h) (or-true (not (eqb (n % 4) 0)))
-    where
-      or-true : (x : Bool) → x || true ≡ true
-      or-true true = refl
-      or-true false = refl
 
   refused-many : {A : Type 0} (n : ℕ) (v : A) → 256 < n → first (startLines w ch mk n a b c) v ≡ refuses 13
   refused-many n v h = rw (wrong-many n h) refl

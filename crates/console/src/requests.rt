@@ -1,7 +1,7 @@
 // The words that requests begin with, and what their numbers and the sheet's verdict come to.
-use air::Refusal;
 use fields::Four;
 use gas::Charge;
+use refusal::Refusal;
 use sheet::SheetAnswer;
 ghost use mathlib.Core.Path.{_≡_};
 ghost use Rattle.console.specs.Requests.{requestOf, gasRequest, otherRequest, askedOf};

@@ -1,7 +1,6 @@
 // Walks as the console shows them: in a line, as the answer to a request, or on a page, as document 01 prints one (specs/Walks.antt). One loop puts the steps of both.
 use crate::replies;
 use air::Millikelvin;
-use air::Refusal;
 use gas::Charge;
 use sheet::SheetAnswer;
 use walk::WalkAnswer;
@@ -120,10 +119,7 @@ fn put_end(answer: WalkAnswer, out: &mut [u8], at: usize) -> usize
     match answer {
         WalkAnswer::Done(_, _, _) => at,
         WalkAnswer::Stopped(_, number, _, _) => put_refused(number, out, at),
-        WalkAnswer::Refused(refusal) => match refusal {
-            Refusal::Plain(number) => put_refused(number, out, at),
-            Refusal::AtRow(number, _) => put_refused(number, out, at),
-        },
+        WalkAnswer::Refused(refusal) => put_refused(refusal::number_of(refusal), out, at),
     }
 }
 

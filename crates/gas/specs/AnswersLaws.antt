@@ -7,12 +7,10 @@ use Prim.Native.Nat.{ℕ, _≤_}
 use lib.Dec.{ltb}
 use lib.IntN.{ℤ, pos}
 use Rattle.signed.specs.Zed.{inZ}
-use Rattle.air.specs.declared.Refusal.{Refusal}
-use Rattle.air.specs.declared.Refusal.the-variants.{Plain, AtRow}
-use Rattle.air.specs.Refusals.{gives, refused, Line, _when_, toldBy, first, First, Clear, none, clear}
-use Rattle.air.specs.RefusalsLaws.{refusal-given, values-given}
-use Rattle.air.specs.Inverse.{looks, unreached, Found, found, written}
-use Rattle.air.specs.InverseLaws.{refusal-writes-nothing}
+use Rattle.refusal.specs.declared.Refusal.{Refusal}
+use Rattle.refusal.specs.Refusals.{gives, refused, Line, _when_, toldBy, first, First, Clear, none, clear}
+use Rattle.refusal.specs.RefusalsLaws.{refusal-given, values-given}
+use Rattle.air.specs.Inverse.{unreached, found}
 use Rattle.sheet.specs.Sheet.{Accepted}
 use Rattle.sheet.specs.Answers.{sheetLines}
 use Rattle.sheet.specs.AnswersLaws.{accepted-of-told}
@@ -23,7 +21,7 @@ use Rattle.gas.specs.declared.TemperatureAnswer.the-variants.{Refused}
 use Rattle.gas.specs.Burning.{Weights, gasOf, Burns}
 use Rattle.gas.specs.BurningLaws.{burns-of}
 use Rattle.gas.specs.Answers.{paperTemperature, chargeLines, temperatureLines, heatOrder, searchOrder, Inverse}
-use Rattle.air.specs.OrdersLaws.{stopped, passed, clear-order, clear-left, clear-right, given}
+use Rattle.refusal.specs.OrdersLaws.{stopped, passed, clear-order, clear-left, clear-right, given}
 use Rattle.gas.specs.Search.{Searched}
 
 -- ---- a sheet, a charge and a temperature that are not refused
@@ -70,9 +68,9 @@ searchable-of w ch s places e =
 module _ (v : ℕ → ℤ) (target : ℤ) (before : List ℕ) where
   -- 8 or 9: nothing is written
   pub unreached-told : (r : TemperatureAnswer) {l : Line} → First (unreached v target) l → paperTemperature r ≡ toldBy l → Inverse [] v target before r before
-  unreached-told r {l} f e =
+  unreached-told r f e =
       let g = refusal-given (found v target) f in
-      record { told = e ∙ sym g; list = rw g (sym (refusal-writes-nothing Found l (looks v target) before)) }
+      record { told = e ∙ sym g; list = rw g refl }
 
   -- a target that is reached
   pub reached-told : {r : TemperatureAnswer} {after : List ℕ} → Clear (unreached v target) → Searched v target before r after → Inverse [] v target before r after
@@ -85,12 +83,8 @@ module _ (v : ℕ → ℤ) (target : ℤ) (before : List ℕ) where
     pub stopped-told : (r : Refusal) → refused r ≡ first lines a → Inverse lines v target before (Refused r) before
     stopped-told r e = record {
       told = stopped lines (unreached v target) a (found v target) r e;
-      list = rw (← stopped lines (unreached v target) a (found v target) r e) (leaves r);
+      list = rw (← stopped lines (unreached v target) a (found v target) r e) refl;
     }
-      where
-        leaves : (q : Refusal) → before ≡ written (refused {A = Found} q) (looks v target) before
-        leaves (Plain n) = refl
-        leaves (AtRow n row) = refl
 
     -- past those lines
     pub passed-told : {x : A} {r : TemperatureAnswer} {after : List ℕ} → gives x ≡ first lines a → Inverse [] v target before r after → Inverse lines v target before r after

@@ -1,28 +1,23 @@
 -- A charge that is not refused: its limits, its mass and the balance of each element, over any sound weights (document 01, "Burning"). Assumes nothing.
 use borrow.Author.Tests.{not-false}
 use mathlib.Core.Path.{_≡_, refl, ap}
-use mathlib.Core.Bool.{Bool, true, false, not, _||_}
+use mathlib.Core.Bool.{true, false, not}
 use Prim.Native.Nat.{ℕ, _+_, _*_, _/_}
 use native.Mathlib.Omega.{arith}
 use lib.Dec.{lit<}
 use lib.IntN.{pos, _-ℤ_}
 use Rattle.signed.specs.Zed.{up, In, inZ, in-range, is-diff, dn-none, leZ-true, apart, zed}
-use Rattle.air.specs.Refusals.{gives, first, Clear, clear, none}
+use Rattle.refusal.specs.BoolLaws.{neither, both-hold}
+use Rattle.refusal.specs.Refusals.{gives, first, Clear, clear, none}
 use Rattle.gas.specs.declared.Charge.{Charge}
 use Rattle.gas.specs.declared.Gas.{Gas}
 use Rattle.gas.specs.declared.Products.{Products}
 use Rattle.gas.specs.declared.BurnAnswer.the-variants.{Is as Burnt}
 use Rattle.gas.specs.Burning.{Weights, document01, Sound, gasOf, beyond, Limits, h2oWeight, fuelMass, oxygenUsed, lean, Burns, products, totalMass, Balanced}
 use Rattle.gas.specs.Answers.{chargeLines, paperBurn, burnTold}
-use Rattle.air.specs.OrdersLaws.{clear-order, given}
+use Rattle.refusal.specs.OrdersLaws.{clear-order, given}
 
 -- ---- the limits of a charge
-none-out : (x y z : Bool) → (not x || (not y || not z)) ≡ false → (x ≡ true) × (y ≡ true) × (z ≡ true)
-none-out true true true e = (refl, refl, refl)
-none-out true true false e = absurd (let z : _≡_ {A = ℕ} 0 1 = cc in omega arith)
-none-out true false z e = absurd (let z : _≡_ {A = ℕ} 0 1 = cc in omega arith)
-none-out false y z e = absurd (let z : _≡_ {A = ℕ} 0 1 = cc in omega arith)
-
 -- each number of a charge that is not beyond its limits
 pub record Inside (w : Weights) (ch : Charge) : Type 0 where
   pub air-in : In (pos 1) (pos (w .mostAir)) (ch .air)
@@ -33,8 +28,9 @@ module _ (w : Weights) (ch : Charge) (h : beyond w ch ≡ false) where
   pub inside-of : Inside w ch
   unfolding beyond
   inside-of =
-      let e = none-out (inZ (pos 1) (pos (w .mostAir)) (ch .air)) (inZ (pos 0) (pos (w .mostAtoms)) (ch .carbon)) (inZ (pos 0) (pos (w .mostAtoms)) (ch .hydrogen)) h in
-      record { air-in = in-range _ _ _ (e .0); carbon-in = in-range _ _ _ (e .1); hydrogen-in = in-range _ _ _ (e .2) }
+      let e = neither (not (inZ (pos 1) (pos (w .mostAir)) (ch .air))) _ h in
+      let f = both-hold (inZ (pos 0) (pos (w .mostAtoms)) (ch .carbon)) (inZ (pos 0) (pos (w .mostAtoms)) (ch .hydrogen)) (e .1) in
+      record { air-in = in-range _ _ _ (not-false _ (e .0)); carbon-in = in-range _ _ _ (f .0); hydrogen-in = in-range _ _ _ (f .1) }
 
   pub limits-of : Limits w (gasOf ch)
   limits-of =

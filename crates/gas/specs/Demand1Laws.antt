@@ -5,8 +5,8 @@ use Prim.Native.Nat.{ℕ}
 use lib.IntN.{ℤ}
 use lib.ListN.{length}
 use Rattle.signed.specs.Zed.{up}
-use Rattle.air.specs.Refusals.{Demand1}
-use Rattle.air.specs.RefusalsLaws.{demand-1}
+use Rattle.refusal.specs.Refusals.{Demand1}
+use Rattle.refusal.specs.RefusalsLaws.{demand-1}
 use Rattle.air.specs.Inverse.{unreached, found}
 use Rattle.gas.specs.declared.Charge.{Charge}
 use Rattle.gas.specs.declared.BurnAnswer.{BurnAnswer}

@@ -9,7 +9,7 @@ use lib.IntN.{ℤ, pos, _+ℤ_}
 use Rattle.signed.specs.Zed.{up, inZ, eqZ, is-pos, same-by}
 use Rattle.rows.specs.Rows.{rowsH}
 use Rattle.rows.specs.Table.{column, airH}
-use Rattle.air.specs.Refusals.{gives, refuses, _when_}
+use Rattle.refusal.specs.Refusals.{gives, refuses, _when_}
 use Rattle.air.specs.Readings.{reading, between, airHeat}
 use Rattle.air.specs.Halving.{halvings, halving}
 use Rattle.air.specs.Inverse.{looks, unreached, Found, found}

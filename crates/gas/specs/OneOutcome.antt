@@ -3,9 +3,8 @@ use mathlib.Core.Path.{_≡_, refl, sym, _∙_}
 use mathlib.Core.List.{List}
 use Prim.Native.Nat.{ℕ}
 use lib.IntN.{ℤ}
-use Rattle.air.specs.declared.Refusal.the-variants.{Plain, AtRow}
-use Rattle.air.specs.Refusals.{Told, gives, refuses, refusesRow}
-use Rattle.air.specs.RefusalsLaws.{one-told}
+use Rattle.refusal.specs.Refusals.{Told, gives, refused}
+use Rattle.refusal.specs.RefusalsLaws.{one-told}
 use Rattle.air.specs.Inverse.{Found}
 use Rattle.gas.specs.declared.Charge.{Charge}
 use Rattle.gas.specs.declared.Products.{Products}
@@ -23,47 +22,39 @@ use Rattle.gas.specs.Answers.{paperBurn, paperHeat, paperSpecific, paper
 -- the answer that the paper's telling stands for
 burnAnswer : Told Products → BurnAnswer
 burnAnswer (gives p) = Burnt p
-burnAnswer (refuses n) = BurnRefused (Plain n)
-burnAnswer (refusesRow n r) = BurnRefused (AtRow n r)
+burnAnswer (refused r) = BurnRefused r
 
 burn-back : (r : BurnAnswer) → burnAnswer (paperBurn r) ≡ r
 unfolding burnAnswer
 burn-back (Burnt p) = refl
-burn-back (BurnRefused (Plain n)) = refl
-burn-back (BurnRefused (AtRow n r)) = refl
+burn-back (BurnRefused r) = refl
 
 heatAnswer : Told ℤ → HeatAnswer
 heatAnswer (gives h) = HeatIs (record { 0 = h })
-heatAnswer (refuses n) = HeatRefused (Plain n)
-heatAnswer (refusesRow n r) = HeatRefused (AtRow n r)
+heatAnswer (refused r) = HeatRefused r
 
 heat-back : (r : HeatAnswer) → heatAnswer (paperHeat r) ≡ r
 unfolding heatAnswer
 heat-back (HeatIs h) = refl
-heat-back (HeatRefused (Plain n)) = refl
-heat-back (HeatRefused (AtRow n r)) = refl
+heat-back (HeatRefused r) = refl
 
 specificAnswer : Told ℤ → SpecificAnswer
 specificAnswer (gives n) = SpecificIs n
-specificAnswer (refuses n) = SpecificRefused (Plain n)
-specificAnswer (refusesRow n r) = SpecificRefused (AtRow n r)
+specificAnswer (refused r) = SpecificRefused r
 
 specific-back : (r : SpecificAnswer) → specificAnswer (paperSpecific r) ≡ r
 unfolding specificAnswer
 specific-back (SpecificIs n) = refl
-specific-back (SpecificRefused (Plain n)) = refl
-specific-back (SpecificRefused (AtRow n r)) = refl
+specific-back (SpecificRefused r) = refl
 
 temperatureAnswer : Told Found → TemperatureAnswer
 temperatureAnswer (gives f) = At (record { 0 = f .mk }) (record { 0 = f .left })
-temperatureAnswer (refuses n) = TemperatureRefused (Plain n)
-temperatureAnswer (refusesRow n r) = TemperatureRefused (AtRow n r)
+temperatureAnswer (refused r) = TemperatureRefused r
 
 temperature-back : (r : TemperatureAnswer) → temperatureAnswer (paperTemperature r) ≡ r
 unfolding temperatureAnswer
 temperature-back (At t left) = refl
-temperature-back (TemperatureRefused (Plain n)) = refl
-temperature-back (TemperatureRefused (AtRow n r)) = refl
+temperature-back (TemperatureRefused r) = refl
 
 module _ (w : Weights) (ch : Charge) where
   pub one-burn : (r q : BurnAnswer) → paperBurn r ≡ burnTold w ch → paperBurn q ≡ burnTold w ch → r ≡ q

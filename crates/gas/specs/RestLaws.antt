@@ -8,7 +8,7 @@ use lib.Dec.{lit<, lit≤}
 use lib.IntN.{ℤ, pos, _+ℤ_, _-ℤ_}
 use lib.Signed.{ltZ, _≤ℤ_, _<ℤ_}
 use Rattle.signed.specs.Zed.{up, is-pos, is-self, is-add, is-minus, dn-none, same-by, zed}
-use Rattle.air.specs.RefusalsLaws.{by-bool}
+use Rattle.refusal.specs.BoolLaws.{by-bool}
 use Rattle.air.specs.Halving.{halving}
 use Rattle.air.specs.Inverse.{fits, rest, Straight}
 use Rattle.air.specs.InverseLaws.{row-kept, top-rest, rest-is}

@@ -7,12 +7,12 @@ pub mod inner;
 mod search;
 
 use air::Millikelvin;
-use air::Refusal;
 use inner::Admitted;
+use refusal::Refusal;
 use sheet::SheetAnswer;
 ghost use mathlib.Core.Path.{_≡_};
 ghost use Rattle.rows.specs.Rows.{rowsH};
-ghost use Rattle.air.specs.Refusals.{first};
+ghost use Rattle.refusal.specs.Refusals.{first};
 ghost use Rattle.gas.specs.Burning.{document01, gasOf};
 ghost use Rattle.gas.specs.Answers.{paperBurn, paperHeat, paperSpecific, paperGas, heatOrder, searchOrder, burnTold, heatTold, contentTold, specificTold, Temperature};
 

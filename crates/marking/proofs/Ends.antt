@@ -1,6 +1,6 @@
 -- Refusal 12 by its tests, and what it leaves: K − w and K + w fit 64 bits, whichever way the key is turned. Assumes nothing.
 use mathlib.Core.Path.{_≡_, refl}
-use mathlib.Core.Bool.{Bool, true, false, not, _||_, true≢false}
+use mathlib.Core.Bool.{Bool, true, false, not, or-true}
 use Prim.Native.Nat.{_≤_}
 use native.Mathlib.Omega.{arith}
 use lib.IntN.{ℤ, pos, negℤ, _+ℤ_, _-ℤ_}
@@ -8,6 +8,7 @@ use lib.Signed.{_≤ℤ_}
 use mir.Syntax.{w64}
 use mir.Val.{SFits}
 use Rattle.signed.specs.Zed.{up, dn, In, in-range, is-self, is-neg, is-add, is-minus, fits-from, le-by, is-pos, apart, zed}
+use Rattle.refusal.specs.BoolLaws.{both-hold}
 use Rattle.marking.specs.Marking.{keyInRange, windowInRange, outside}
 use Rattle.marking.specs.Exact.{turned}
 
@@ -19,11 +20,7 @@ module _ (key window : ℤ) where
 
   pub key-outside : keyInRange key ≡ false → outside key window ≡ true
   unfolding outside
-  key-outside e = rw e (either (windowInRange window))
-    where
-      either : (b : Bool) → (not b || true) ≡ true
-      either true = refl
-      either false = refl
+  key-outside e = rw e (or-true (not (windowInRange window)))
 
   pub both-inside : keyInRange key ≡ true → windowInRange window ≡ true → outside key window ≡ false
   unfolding outside
@@ -34,15 +31,10 @@ pub record Ranged (key window : ℤ) : Type 0 where
   pub key-in : In (negℤ (pos 1000000000000)) (pos 1000000000000) key
   pub window-in : In (pos 0) (pos 100000) window
 
-neither : (a b : Bool) → (not a || not b) ≡ false → (a ≡ true) × (b ≡ true)
-neither true true e = (refl, refl)
-neither true false e = absurd (true≢false e)
-neither false b e = absurd (true≢false e)
-
 pub ranged : (key window : ℤ) → outside key window ≡ false → Ranged key window
 unfolding outside
 ranged key window e =
-    let h = neither (windowInRange window) (keyInRange key) e in
+    let h = both-hold (windowInRange window) (keyInRange key) e in
     record { key-in = in-range _ _ key (h .1); window-in = in-range _ _ window (h .0) }
 
 -- ---- the parts of a turned key, and its ends

@@ -6,7 +6,7 @@ use Prim.Native.Nat.{ℕ}
 use lib.IntN.{pos, negℤ}
 use lib.Ieee.{inf, binary64, ofBits}
 use Rattle.signed.specs.Zed.{inZ}
-use Rattle.air.specs.Refusals.{Told, gives, refuses}
+use Rattle.refusal.specs.Refusals.{Told, gives, refuses}
 use Rattle.marking.specs.Marking.{near, outside, marked}
 use Rattle.marking.specs.declared.Typed.{Typed}
 use Rattle.marking.specs.declared.Typed.the-variants.{Kelvins, Content, Blank}

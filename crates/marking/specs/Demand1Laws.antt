@@ -3,8 +3,8 @@ use mathlib.Core.Path.{_≡_}
 use mathlib.Core.List.{List}
 use Prim.Native.Nat.{ℕ}
 use lib.IntN.{ℤ}
-use Rattle.air.specs.Refusals.{Demand1}
-use Rattle.air.specs.RefusalsLaws.{demand-1}
+use Rattle.refusal.specs.Refusals.{Demand1}
+use Rattle.refusal.specs.RefusalsLaws.{demand-1}
 use Rattle.gas.specs.declared.Charge.{Charge}
 use Rattle.gas.specs.Burning.{document01}
 use Rattle.gas.specs.Answers.{heatOrder}

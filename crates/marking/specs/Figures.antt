@@ -7,7 +7,7 @@ use lib.IntN.{ℤ, pos, negsuc, natAbs}
 use lib.Ieee.{Float, binary64, ofInt, sub}
 use lib.Ieee.Exact.{HasValue}
 use Rattle.signed.specs.Zed.{up}
-use Rattle.air.specs.Refusals.{Told, gives, refused, first}
+use Rattle.refusal.specs.Refusals.{Told, gives, refused, first}
 use Rattle.gas.specs.declared.Charge.{Charge}
 use Rattle.gas.specs.Burning.{document01, gasOf, totalMass}
 use Rattle.gas.specs.Heat.{specificContent}

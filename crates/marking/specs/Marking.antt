@@ -8,7 +8,7 @@ use lib.Signed.{leZ}
 use lib.Ieee.{Float, nan, inf, fin, up, down}
 use lib.Ieee.Scale.{finite}
 use Rattle.signed.specs.Zed.{inZ}
-use Rattle.air.specs.Refusals.{Told, gives, refused, Line, _when_, first}
+use Rattle.refusal.specs.Refusals.{Told, gives, refused, Line, _when_, first}
 use Rattle.marking.specs.declared.Typed.{Typed}
 use Rattle.marking.specs.declared.Typed.the-variants.{Kelvins, Content, Blank}
 use Rattle.marking.specs.declared.MarkAnswer.{MarkAnswer}

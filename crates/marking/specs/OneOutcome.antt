@@ -5,9 +5,8 @@ use mathlib.Core.List.{List}
 use Prim.Native.Nat.{ℕ}
 use lib.IntN.{ℤ}
 use lib.Ieee.{Float, binary64, sub}
-use Rattle.air.specs.Refusals.{Told, gives, refuses, refusesRow}
-use Rattle.air.specs.declared.Refusal.the-variants.{Plain, AtRow}
-use Rattle.air.specs.RefusalsLaws.{one-told}
+use Rattle.refusal.specs.Refusals.{Told, gives, refused}
+use Rattle.refusal.specs.RefusalsLaws.{one-told}
 use Rattle.gas.specs.declared.Charge.{Charge}
 use Rattle.marking.specs.Marking.{marked, paper}
 use Rattle.marking.specs.Figures.{stationTold, paperStation}
@@ -22,15 +21,13 @@ use Rattle.marking.specs.declared.MarkAnswer.the-variants.{Counts, Misse
 markOf : Told Bool → MarkAnswer
 markOf (gives true) = Counts
 markOf (gives false) = Misses
-markOf (refuses number) = Refused (Plain number)
-markOf (refusesRow number row) = Refused (AtRow number row)
+markOf (refused r) = Refused r
 
 mark-back : (r : MarkAnswer) → markOf (paper r) ≡ r
 unfolding markOf
 mark-back Counts = refl
 mark-back Misses = refl
-mark-back (Refused (Plain number)) = refl
-mark-back (Refused (AtRow number row)) = refl
+mark-back (Refused r) = refl
 
 -- no two marks satisfy the promise
 pub one-mark : (typed : Typed) (key window : ℤ) (r s : MarkAnswer) → paper r ≡ marked typed key window → paper s ≡ marked typed key window → r ≡ s
@@ -39,14 +36,12 @@ one-mark typed key window = one-told paper markOf mark-back
 -- the station's answer that is told so
 stationAnswer : Told StationFigure → StationAnswer
 stationAnswer (gives f) = StationIs f
-stationAnswer (refuses number) = StationRefused (Plain number)
-stationAnswer (refusesRow number row) = StationRefused (AtRow number row)
+stationAnswer (refused r) = StationRefused r
 
 station-back : (r : StationAnswer) → stationAnswer (paperStation r) ≡ r
 unfolding stationAnswer
 station-back (StationIs f) = refl
-station-back (StationRefused (Plain number)) = refl
-station-back (StationRefused (AtRow number row)) = refl
+station-back (StationRefused r) = refl
 
 -- no two answers satisfy the promise of `station`
 pub one-station : (ch : Charge) (mk : ℤ) (s : List ℕ) (r q : StationAnswer) → paperStation r ≡ stationTold ch mk s → paperStation q ≡ stationTold ch mk s → r ≡ q

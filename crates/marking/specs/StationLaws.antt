@@ -6,8 +6,8 @@ use Prim.Native.Nat.{ℕ, _^_, _≤_}
 use native.Mathlib.Omega.{arith}
 use lib.IntN.{ℤ, pos, natAbs, _-ℤ_}
 use Rattle.signed.specs.Zed.{up, in-range, apart, zed}
-use Rattle.air.specs.RefusalsLaws.{values-given}
-use Rattle.air.specs.OrdersLaws.{clear-order, given}
+use Rattle.refusal.specs.RefusalsLaws.{values-given}
+use Rattle.refusal.specs.OrdersLaws.{clear-order, given}
 use Rattle.gas.specs.declared.Charge.{Charge}
 use Rattle.gas.specs.declared.Gas.{Gas}
 use Rattle.gas.specs.Burning.{document01, gasOf, totalMass}

@@ -6,8 +6,8 @@ use Prim.Native.Nat.{ℕ}
 use lib.ListN.{length}
 use borrow.Author.Tests.{eq-eqb, ne-eqb}
 use Rattle.text.specs.Fold.{run}
-use Rattle.air.specs.declared.Refusal.the-variants.{Plain, AtRow}
-use Rattle.air.specs.Refusals.{first}
+use Rattle.refusal.specs.declared.Refusal.the-variants.{Plain, At}
+use Rattle.refusal.specs.Refusals.{first}
 use Rattle.sheet.specs.declared.SheetAnswer.the-variants.{Good, Refused}
 use Rattle.sheet.specs.declared.machine.Place.{Place}
 use Rattle.sheet.specs.declared.machine.State.{State}
@@ -42,7 +42,7 @@ module _ (text l numbers after : List ℕ) (n : length l ≡ 5403) (m : length n
         list = refl;
       }
 
-  pub bad-row : {r : ℕ} → w ≡ false → r ≡ rowOf s → SheetRead text l (Refused (AtRow 2 r)) l
+  pub bad-row : {r : ℕ} → w ≡ false → r ≡ rowOf s → SheetRead text l (Refused (At 2 r)) l
   bad-row {r} t e = record {
     form = noSheet r (rw (e, state-is) (not-whole-bad text (sym test-is ∙ t)));
     told = rw (eq-eqb (length l) 5403 n) refl;

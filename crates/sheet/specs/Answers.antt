@@ -5,7 +5,7 @@ use mathlib.Core.Bool.{Bool, true, false}
 use mathlib.Core.List.{List, [], _∷_}
 use Prim.Native.Nat.{ℕ}
 use lib.Dec.{ltb}
-use Rattle.air.specs.Refusals.{Told, gives, refused, Line, _when_, _on-row_when_, first}
+use Rattle.refusal.specs.Refusals.{Told, gives, refused, Line, _when_, _at-place_when_, first}
 use Rattle.sheet.specs.declared.SheetAnswer.{SheetAnswer}
 use Rattle.sheet.specs.declared.SheetAnswer.the-variants.{Good, Refused}
 use Rattle.sheet.specs.Text.{Sheet, FirstBad}
@@ -38,7 +38,7 @@ numbersOf (noSheet row b) = []
 
 -- refusals 1 and 2, in the paper's order
 abbrev pub readTold : {text : List ℕ} → List ℕ → Form text → Told (Unit {0})
-readTold before form = first (1 when notLong before ∷ 2 on-row badRowOf form when breaks form ∷ []) tt
+readTold before form = first (1 when notLong before ∷ 2 at-place badRowOf form when breaks form ∷ []) tt
 
 -- the list on return: all numbers of a good sheet, and unchanged by a refusal
 abbrev pub listAfter : SheetAnswer → List ℕ → List ℕ → List ℕ
@@ -53,7 +53,7 @@ pub record SheetRead (text before : List ℕ) (answer : SheetAnswer) (later : Li
 
 -- refusals 1 and 3, in the paper's order: the first lines of every call that takes a sheet list
 abbrev pub sheetLines : List ℕ → List Line
-sheetLines s = 1 when notLong s ∷ 3 on-row firstBadRow s when ltb (firstBadRow s) 1801 ∷ []
+sheetLines s = 1 when notLong s ∷ 3 at-place firstBadRow s when ltb (firstBadRow s) 1801 ∷ []
 
 -- the whole of a judgement
 abbrev pub judgeTold : List ℕ → Told (Unit {0})

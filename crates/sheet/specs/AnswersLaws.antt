@@ -8,9 +8,9 @@ use Prim.Native.Nat.{ℕ, _≤_, _<_}
 use native.Mathlib.Omega.{arith}
 use lib.Dec.{ltb, eqb}
 use lib.ListN.{length}
-use Rattle.air.specs.Refusals.{gives, refuses, refusesRow, refused, Line, _when_, _on-row_when_, first}
-use Rattle.air.specs.declared.Refusal.{Refusal}
-use Rattle.air.specs.OrdersLaws.{stopped}
+use Rattle.refusal.specs.Refusals.{gives, refuses, refusesAt, refused, Line, _when_, _at-place_when_, first}
+use Rattle.refusal.specs.declared.Refusal.{Refusal}
+use Rattle.refusal.specs.OrdersLaws.{stopped}
 use Rattle.sheet.specs.declared.SheetAnswer.{SheetAnswer}
 use Rattle.sheet.specs.declared.SheetAnswer.the-variants.{Good, Refused}
 use Rattle.sheet.specs.Text.{sheetText, Numbers, Sheet}
@@ -27,7 +27,7 @@ read-of-sheet {before} numbers g n p =
 pub sheet-of-read : {text before later : List ℕ} → SheetRead text before Good later → (length before ≡ 5403) × Sheet text later
 sheet-of-read {text} {before} {later} p = go (eqb (length before) 5403) (p .form) refl (p .told) (p .list)
   where
-    go : (x : Bool) (f : Form text) → eqb (length before) 5403 ≡ x → gives tt ≡ first (1 when not x ∷ 2 on-row badRowOf f when breaks f ∷ []) (tt {0}) → later ≡ numbersOf f → (length before ≡ 5403) × Sheet text later
+    go : (x : Bool) (f : Form text) → eqb (length before) 5403 ≡ x → gives tt ≡ first (1 when not x ∷ 2 at-place badRowOf f when breaks f ∷ []) (tt {0}) → later ≡ numbersOf f → (length before ≡ 5403) × Sheet text later
     go false f q e l = absurd (let z : _≡_ {A = ℕ} 0 1 = cc in omega arith)
     go true (noSheet r b) q e l = absurd (let z : _≡_ {A = ℕ} 0 1 = cc in omega arith)
     go true (sheetOf numbers h) q e l = (eqb-true _ _ q, rw l h)
@@ -36,7 +36,7 @@ sheet-of-read {text} {before} {later} p = go (eqb (length before) 5403) (p .form
 pub told-length : (s : List ℕ) → (length s ≡ 5403 → ⊥) → judgeTold s ≡ refuses 1
 told-length s n = rw (ne-eqb (length s) 5403 n) refl
 
-pub told-row : (s : List ℕ) (r : ℕ) → length s ≡ 5403 → firstBadRow s ≡ r → r < 1801 → judgeTold s ≡ refusesRow 3 r
+pub told-row : (s : List ℕ) (r : ℕ) → length s ≡ 5403 → firstBadRow s ≡ r → r < 1801 → judgeTold s ≡ refusesAt 3 r
 told-row s r n e h = rw (eq-eqb (length s) 5403 n, e, lt-ltb r 1801 h) refl
 
 pub told-good : (s : List ℕ) → length s ≡ 5403 → 1801 ≤ firstBadRow s → judgeTold s ≡ gives tt
@@ -49,7 +49,7 @@ told-of-accepted {s} a = told-good s (a .long) (omega (arith, no-bad-row s (a .n
 pub accepted-of-told : (s : List ℕ) → judgeTold s ≡ gives tt → Accepted s
 accepted-of-told s e = go (eqb (length s) 5403) (ltb (firstBadRow s) 1801) refl refl e
   where
-    go : (x y : Bool) → eqb (length s) 5403 ≡ x → ltb (firstBadRow s) 1801 ≡ y → first (1 when not x ∷ 3 on-row firstBadRow s when y ∷ []) (tt {0}) ≡ gives tt → Accepted s
+    go : (x y : Bool) → eqb (length s) 5403 ≡ x → ltb (firstBadRow s) 1801 ≡ y → first (1 when not x ∷ 3 at-place firstBadRow s when y ∷ []) (tt {0}) ≡ gives tt → Accepted s
     go false y p q e = absurd (let z : _≡_ {A = ℕ} 0 1 = cc in omega arith)
     go true true p q e = absurd (let z : _≡_ {A = ℕ} 0 1 = cc in omega arith)
     go true false p q e = record { long = eqb-true _ _ p; noBadRow = λ r h. rows-before s r (omega (arith, ltb-false (firstBadRow s) 1801 q)) }

@@ -8,7 +8,7 @@ use native.Mathlib.Nat.{eq-or-lt-of-le, le-refl, le-of-lt, lt-trans}
 use native.Mathlib.Omega.{arith}
 use lib.ListN.{length, getD}
 use borrow.Author.Tests.{eq-eqb, ne-eqb}
-use Rattle.air.specs.Refusals.{refusesRow}
+use Rattle.refusal.specs.Refusals.{refusesAt}
 use Rattle.rows.specs.Table.{airH}
 use Rattle.rows.specs.TableLaws.{H-grows, H-most, H-first}
 use Rattle.sheet.specs.Answers.{judgeTold}
@@ -161,7 +161,7 @@ module _ (m : ℕ) (l : 200 < m) (u : m ≤ 2000) where
   row-bad zero e = absurd (omega arith)
   row-bad (suc r) e = let t = too-steep (200 + r) (omega arith) in rw t (or-true (overLimit (laid (oneMore m)) (200 + suc r)))
 
-  pub one-more-refused : judgeTold (laid (oneMore m)) ≡ refusesRow 3 (m - 200)
+  pub one-more-refused : judgeTold (laid (oneMore m)) ≡ refusesAt 3 (m - 200)
   one-more-refused =
       told-row (laid (oneMore m)) (m - 200) (laid-long (oneMore m))
       (first-bad-found (laid (oneMore m)) (m - 200) (omega arith) (row-bad (m - 200) (omega arith))

@@ -11,7 +11,7 @@ use lib.Seq.{sets, length-sets}
 use borrow.Author.Tests.{eqb-true, ltb-true, ltb-false, lt-ltb, eq-eqb, ne-eqb, not-true}
 use Rattle.text.specs.Reading.{isDigit, mayFollow}
 use Rattle.text.specs.ReadingLaws.{digit-range, follow-most, and-left, and-right}
-use Rattle.air.specs.Refusals.{first}
+use Rattle.refusal.specs.Refusals.{first}
 use Rattle.sheet.specs.declared.machine.Place.{Place}
 use Rattle.sheet.specs.declared.machine.State.{State}
 use Rattle.sheet.specs.declared.machine.State.the-variants.{Going, Bad}

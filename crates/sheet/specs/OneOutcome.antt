@@ -2,8 +2,7 @@
 use mathlib.Core.Path.{_≡_, refl, sym, _∙_, ap, ap₂}
 use mathlib.Core.List.{List}
 use Prim.Native.Nat.{ℕ}
-use Rattle.air.specs.declared.Refusal.the-variants.{Plain, AtRow}
-use Rattle.air.specs.Refusals.{Told, gives, refuses, refusesRow}
+use Rattle.refusal.specs.Refusals.{Told, gives, refused}
 use Rattle.sheet.specs.declared.SheetAnswer.{SheetAnswer}
 use Rattle.sheet.specs.declared.SheetAnswer.the-variants.{Good, Refused}
 use Rattle.sheet.specs.Answers.{paper, readTold, listAfter, SheetRead, judgeTold}
@@ -13,14 +12,12 @@ use Rattle.sheet.specs.FormLaws.{one-form}
 -- the answer of what it tells
 answerOf : Told (Unit {0}) → SheetAnswer
 answerOf (gives a) = Good
-answerOf (refuses n) = Refused (Plain n)
-answerOf (refusesRow n r) = Refused (AtRow n r)
+answerOf (refused r) = Refused r
 
 answer-back : (a : SheetAnswer) → answerOf (paper a) ≡ a
 unfolding answerOf
 answer-back Good = refl
-answer-back (Refused (Plain n)) = refl
-answer-back (Refused (AtRow n r)) = refl
+answer-back (Refused r) = refl
 
 pub one-answer : (a b : SheetAnswer) → paper a ≡ paper b → a ≡ b
 one-answer a b e = sym (answer-back a) ∙ (ap answerOf e ∙ answer-back b)

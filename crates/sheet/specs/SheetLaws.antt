@@ -13,6 +13,7 @@ use borrow.Author.Tests.{ltb-false, lt-ltb, le-ltb}
 use Rattle.rows.specs.Table.{airH}
 use Rattle.sheet.specs.Text.{Numbers}
 use Rattle.sheet.specs.Sheet.{o2, co2, h2o, overLimit, falls, rise, breaksStep, badRow, firstFrom, firstBadRow, Accepted}
+use Rattle.refusal.specs.BoolLaws.{neither}
 use Rattle.air.specs.Readings.{NeverFalls}
 
 -- ---- the first that passes a test
@@ -60,10 +61,6 @@ unfolding firstBadRow
 rows-before s r h = none-before (badRow s) 1801 0 r (omega arith) h
 
 -- ---- a test of several parts that fails, fails in each
-neither : (a b : Bool) → (a || b) ≡ false → (a ≡ false) × (b ≡ false)
-neither true b e = absurd (let z : _≡_ {A = ℕ} 0 1 = cc in omega arith)
-neither false b e = (refl, e)
-
 pub record InLimit (s : List ℕ) (k : ℕ) : Type 0 where
   pub o2-most : o2 s k ≤ 200000
   pub co2-most : co2 s k ≤ 200000

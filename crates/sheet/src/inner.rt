@@ -1,7 +1,7 @@
 // The inner doors of sheet, for the calls above that take a sheet list: the list judged with the air column lent, its columns read by kelvin, and a whole sheet put into it.
 use crate::SheetAnswer;
 use crate::judging;
-use air::Refusal;
+use refusal::Refusal;
 ghost use mathlib.Core.Path.{_≡_};
 ghost use Prim.Native.Nat.{_≤_, _<_};
 ghost use lib.ListN.{length};
@@ -19,7 +19,7 @@ pub fn judge(list: &[u32], air: &[u32; 1801]) -> SheetAnswer
     }
     let row = judging::first_bad_row(list, air);
     if row < 1801 {
-        SheetAnswer::Refused(Refusal::AtRow(crate::BAD_ROW, row))
+        SheetAnswer::Refused(Refusal::At(crate::BAD_ROW, row))
     } else {
         SheetAnswer::Good
     }

@@ -5,9 +5,9 @@ pub mod inner;
 mod judging;
 mod machine;
 
+use refusal::Refusal;
 ghost use mathlib.Core.Path.{_≡_};
 ghost use Rattle.sheet.specs.Answers.{SheetRead, paper, judgeTold};
-use air::Refusal;
 
 // A good sheet, or the refusal.
 pub enum SheetAnswer {
@@ -35,7 +35,7 @@ pub fn read_sheet(text: &[u8], list: &mut [u32]) -> SheetAnswer
         inner::copy(&numbers, list);
         SheetAnswer::Good
     } else {
-        SheetAnswer::Refused(Refusal::AtRow(FORM, machine::row_of(s)))
+        SheetAnswer::Refused(Refusal::At(FORM, machine::row_of(s)))
     }
 }
 

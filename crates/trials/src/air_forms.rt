@@ -2,16 +2,7 @@
 use crate::lists;
 use air::Millikelvin;
 use air::Reading;
-use air::Refusal;
 ghost use Prim.Native.Nat.{_≤_};
-
-// A refusal's number.
-pub(crate) fn number_of(refusal: Refusal) -> u32 {
-    match refusal {
-        Refusal::Plain(number) => number,
-        Refusal::AtRow(number, _) => number,
-    }
-}
 
 // A reading after a tab; a refused one is minus its number.
 fn put_figure(reading: Reading, out: &mut [u8], at: usize) -> usize {
@@ -19,7 +10,7 @@ fn put_figure(reading: Reading, out: &mut [u8], at: usize) -> usize {
         Reading::Is(n) => wording::put_number(n, out, at),
         Reading::Refused(refusal) => {
             let next = text::put_text(b"\t-", out, at);
-            text::put_decimal(number_of(refusal) as u64, out, next)
+            text::put_decimal(refusal::number_of(refusal) as u64, out, next)
         }
     }
 }

@@ -1,5 +1,4 @@
 // The further forms about the two inverses, a psi's and a gas heat's: into lent lists, and in blocks.
-use crate::air_forms;
 use crate::lists;
 use air::PsiAnswer;
 use gas::Charge;
@@ -23,14 +22,14 @@ enum Found {
 fn of_psi(answer: PsiAnswer) -> Found {
     match answer {
         PsiAnswer::At(t, rest) => Found::At(text::size(t.0), rest),
-        PsiAnswer::Refused(refusal) => Found::Refused(air_forms::number_of(refusal)),
+        PsiAnswer::Refused(refusal) => Found::Refused(refusal::number_of(refusal)),
     }
 }
 
 fn of_gas(answer: TemperatureAnswer) -> Found {
     match answer {
         TemperatureAnswer::At(t, rest) => Found::At(text::size(t.0), text::size(rest.0)),
-        TemperatureAnswer::Refused(refusal) => Found::Refused(air_forms::number_of(refusal)),
+        TemperatureAnswer::Refused(refusal) => Found::Refused(refusal::number_of(refusal)),
     }
 }
 

@@ -1,5 +1,4 @@
 // The further forms about figures and marks: bit patterns of a station's figures, and marks by the block.
-use crate::air_forms;
 use crate::inverses;
 use crate::lists;
 use air::Millikelvin;
@@ -88,7 +87,7 @@ fn tallied(tally: Tally, answer: MarkAnswer) -> Tally {
         MarkAnswer::Misses => misses = std::num::wrapping_add_u64(misses, 1),
         MarkAnswer::Refused(refusal) => {
             refused = std::num::wrapping_add_u64(refused, 1);
-            number = air_forms::number_of(refusal) as u64;
+            number = refusal::number_of(refusal) as u64;
         }
     }
     Tally {

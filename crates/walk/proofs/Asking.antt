@@ -1,7 +1,7 @@
 -- The first half of a step: counts of atoms, ranges, what a step brings, and what it asks. Assumes nothing.
 use borrow.Author.Tests.{not-false}
 use mathlib.Core.Path.{_≡_, refl, sym, ap, ap₂, _∙_}
-use mathlib.Core.Bool.{Bool, true, false, _||_}
+use mathlib.Core.Bool.{Bool, true, false, _||_, or-true}
 use mathlib.Core.List.{[], _∷_}
 use Prim.Native.Nat.{ℕ, _+_, _*_, _-_, _<_, _≤_}
 use native.Mathlib.Nat.{mul-le-mul}
@@ -11,8 +11,8 @@ use lib.Signed.{ltZ, leZ}
 use mir.Syntax.{w64}
 use mir.Val.{SFits}
 use Rattle.signed.specs.Zed.{up, dn, apart, Is, is-pos, is-self, is-add, is-minus, is-mul, fits-from, up-most, dn-most, in-range, outside, outside-over, not-outside, no-ltZ, ltZ-false, zed}
-use Rattle.air.specs.Refusals.{gives, refuses, _when_, first}
-use Rattle.air.specs.RefusalsLaws.{by-bool, neither}
+use Rattle.refusal.specs.Refusals.{gives, refuses, _when_, first}
+use Rattle.refusal.specs.BoolLaws.{by-bool, neither}
 use Rattle.gas.specs.declared.Gas.{Gas}
 use Rattle.gas.specs.Burning.{document01, Limits, beyond, fuelMass}
 use Rattle.walk.specs.declared.Step.{Step}
@@ -85,10 +85,6 @@ module _ (g : Gas) (p : Step) (l : Limits document01 g) where
 
   pub wrong-hydrogen : wrongCount (g .hydrogen) (p .hydrogen) ≡ true → wrongAtoms document01 g p ≡ true
   wrong-hydrogen e = atoms-are ∙ rw e (or-true (wrongCount (g .carbon) (p .carbon)))
-    where
-      or-true : (b : Bool) → b || true ≡ true
-      or-true true = refl
-      or-true false = refl
 
   pub right-atoms : wrongCount (g .carbon) (p .carbon) ≡ false → wrongCount (g .hydrogen) (p .hydrogen) ≡ false → wrongAtoms document01 g p ≡ false
   right-atoms e h = atoms-are ∙ rw (e, h) refl

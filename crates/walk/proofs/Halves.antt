@@ -12,10 +12,9 @@ use mir.Syntax.{w64}
 use mir.Val.{SFits}
 use Rattle.signed.specs.Zed.{le-from, ltZ-false, up, dn, apart, is-self, is-minus, same-by, fits-from, inZ, in-range, not-outside, zed}
 use Rattle.air.specs.declared.Millikelvin.{Millikelvin}
-use Rattle.air.specs.declared.Refusal.{Refusal}
-use Rattle.air.specs.declared.Refusal.the-variants.{Plain, AtRow}
-use Rattle.air.specs.Refusals.{Told, gives, refuses, refused, first, Clear, clear}
-use Rattle.air.specs.RefusalsLaws.{gives-clear, values-given}
+use Rattle.refusal.specs.declared.Refusal.{Refusal}
+use Rattle.refusal.specs.Refusals.{Told, gives, refused, first, Clear, clear, numberOf}
+use Rattle.refusal.specs.RefusalsLaws.{gives-clear, values-given}
 use Rattle.air.specs.Halving.{eleven}
 use Rattle.air.specs.HalvingLaws.{length-eleven}
 use Rattle.air.specs.Inverse.{temperature, rest, looks, unreached, Found, found, written}
@@ -27,16 +26,15 @@ use Rattle.gas.specs.declared.TemperatureAnswer.the-variants.{At, Refused as No
 use Rattle.gas.specs.Burning.{document01, Limits, Burns, lean}
 use Rattle.gas.specs.Heat.{gasHeat}
 use Rattle.gas.specs.Answers.{Inverse}
-use Rattle.air.specs.OrdersLaws.{stopped}
+use Rattle.refusal.specs.OrdersLaws.{stopped}
 use Rattle.gas.specs.BoundsLaws.{gas-heat-most, gas-heat-least}
 use Rattle.walk.specs.declared.Step.{Step}
 use Rattle.walk.specs.declared.stepping.Standing.{Standing}
 use Rattle.walk.specs.declared.stepping.Asking.{Asking}
 use Rattle.walk.specs.declared.stepping.Ask.the-variants.{For, Refused as AskRefused}
 use Rattle.walk.specs.declared.stepping.Stepped.the-variants.{Done, Refused}
-use Rattle.walk.specs.Lists.{laid}
 use Rattle.walk.specs.Step.{Asked, Out, held, newGas, burnHeat, stepHeat, wrongAtoms, wrongHeat, askedOf, asked, outOf, sought, judge}
-use Rattle.walk.specs.Work.{stateOf, Stands, InReach, AsksOf, burning, none, Asks, numberOf, standing, shown, elevenOf, ready, StepGives}
+use Rattle.walk.specs.Work.{stateOf, Stands, InReach, AsksOf, burning, none, Asks, standing, ready, StepGives}
 use Rattle.walk.specs.Work as work
 use Rattle.walk.proofs.Asking.{brought-most, fuel-small}
 
@@ -122,20 +120,12 @@ module _ (s : List ℕ) (st : Standing) (p : Step) where
     is-sought = rw (← q .asked-is) refl
 
     -- it is asked, and not found
-    refusal-shown : (r : Refusal) → refuses (numberOf r) ≡ shown (refused r)
-    refusal-shown (Plain n) = refl
-    refusal-shown (AtRow n i) = refl
-
-    refusal-keeps : (r : Refusal) (xs before : List ℕ) → written {A = Found} (refused r) xs before ≡ laid (elevenOf (refused r)) before
-    refusal-keeps (Plain n) xs before = refl
-    refusal-keeps (AtRow n i) xs before = refl
-
     pub search-stops : (r : Refusal) (before after : List ℕ) → Inverse [] v target before (NotFound r) after → StepGives judged s before (Refused (numberOf r)) after
     search-stops r before after h =
         let e : judged ≡ refused r = is-sought ∙ sym (stopped (unreached v target) [] (found v target) out r (h .told)) in
         rw e (record {
-          told = refusal-shown r;
-          looks = h .list ∙ ap (λ (x : Told Found). written x (looks v target) before) (sym (h .told)) ∙ refusal-keeps r (looks v target) before;
+          told = refl;
+          looks = h .list ∙ ap (λ (x : Told Found). written x (looks v target) before) (sym (h .told));
           stands = work.none;
         })
 

@@ -8,7 +8,7 @@ use lib.IntN.{ℤ, pos}
 use lib.ListN.{length, take, drop, set, length-append, length-set, take-append-drop, length-map}
 use lib.Seq.{getD-drop, drop-drop}
 use Rattle.signed.specs.Zed.{plain}
-use Rattle.air.specs.Refusals.{Told, gives, refuses, refusesRow}
+use Rattle.refusal.specs.Refusals.{Told, gives, refused, numberOf}
 use Rattle.air.specs.Halving.{eleven}
 use Rattle.gas.specs.declared.Heat.{Heat}
 use Rattle.gas.specs.Burning.{document01}
@@ -45,15 +45,13 @@ pub was-done : (j : Told Out) {s l : List ℕ} (st : Standing) (rest : Heat) (l�
 was-done (gives o) st rest l′ g =
     let e = same-values (g .told) in
     record { out = o; judged = refl; state = sym (ap (λ (x : Shown). x .state) e); rests = sym (ap (λ (x : Shown). x .rests) e); looks = g .looks; stands = stands-of (g .stands) }
-was-done (refuses n) st rest l′ g = absurd (let e = g .told in let z : _≡_ {A = ℕ} 0 1 = cc in omega arith)
-was-done (refusesRow n r) st rest l′ g = absurd (let e = g .told in let z : _≡_ {A = ℕ} 0 1 = cc in omega arith)
+was-done (refused r) st rest l′ g = absurd (let e = g .told in let z : _≡_ {A = ℕ} 0 1 = cc in omega arith)
 
 -- a refused step: the walk goes no further, and its looks are as they were
 pub was-refused : (j : Told Out) {s l : List ℕ} (n : ℕ) (l′ : List ℕ) → StepGives j s l (Refused n) l′
     → ((st : State) (k : State → Trace) → onward st j k ≡ record { outs = []; end = cut n st }) × (l′ ≡ l)
 was-refused (gives o) n l′ g = absurd (let e = g .told in let z : _≡_ {A = ℕ} 0 1 = cc in omega arith)
-was-refused (refuses m) n l′ g = (λ st k. let e = g .told in let q : m ≡ n = cc in rw q refl, g .looks)
-was-refused (refusesRow m r) n l′ g = (λ st k. let e = g .told in let q : m ≡ n = cc in rw q refl, g .looks)
+was-refused (refused r) n l′ g = (λ st k. let e = g .told in let q : numberOf r ≡ n = cc in rw q refl, g .looks)
 
 -- ---- the steps by index
 -- the outputs of steps before those of a trace

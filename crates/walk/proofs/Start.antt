@@ -1,8 +1,8 @@
 -- The start of a walk: what it tells under each of its tests, and the run that follows. Assumes nothing.
 use borrow.Author.Tests.{not-false, ltb-false}
 use mathlib.Core.Path.{_≡_, refl, sym, ap, _∙_, subst}
-use mathlib.Core.Bool.{Bool, true, false, not, _||_}
-use mathlib.Core.List.{List, [], _∷_, _++_}
+use mathlib.Core.Bool.{true, false, not}
+use mathlib.Core.List.{List, [], _++_}
 use Prim.Native.Nat.{ℕ, _*_, _/_, _%_, _≤_}
 use native.Mathlib.Omega.{arith}
 use lib.Dec.{ltb, eqb}
@@ -10,10 +10,11 @@ use lib.IntN.{ℤ, pos}
 use lib.ListN.{length}
 use Rattle.signed.specs.Zed.{up, inZ}
 use Rattle.air.specs.declared.Millikelvin.{Millikelvin}
-use Rattle.air.specs.declared.Refusal.{Refusal}
-use Rattle.air.specs.declared.Refusal.the-variants.{Plain, AtRow}
-use Rattle.air.specs.Refusals.{Told, gives, refused, Line, first, Clear, clear, none}
-use Rattle.air.specs.RefusalsLaws.{neither, gives-clear, values-given}
+use Rattle.refusal.specs.declared.Refusal.{Refusal}
+use Rattle.refusal.specs.declared.Refusal.the-variants.{Plain}
+use Rattle.refusal.specs.Refusals.{Told, gives, refused, first, Clear, clear}
+use Rattle.refusal.specs.BoolLaws.{neither}
+use Rattle.refusal.specs.RefusalsLaws.{gives-clear, values-given}
 use Rattle.sheet.specs.Sheet.{Accepted}
 use Rattle.sheet.specs.Answers.{sheetLines, judgeTold, paper}
 use Rattle.sheet.specs.AnswersLaws.{past-sheet, stopped-by-sheet}
@@ -22,7 +23,7 @@ use Rattle.gas.specs.declared.Charge.{Charge}
 use Rattle.gas.specs.declared.Gas.{Gas}
 use Rattle.gas.specs.Burning.{document01, gasOf, Burns}
 use Rattle.gas.specs.BurningLaws.{burns-of}
-use Rattle.air.specs.OrdersLaws.{stopped}
+use Rattle.refusal.specs.OrdersLaws.{stopped, clear-left, clear-right}
 use Rattle.gas.specs.Answers.{chargeLines, temperatureLines}
 use Rattle.walk.specs.declared.WalkAnswer.{WalkAnswer}
 use Rattle.walk.specs.declared.WalkAnswer.the-variants.{Refused}
@@ -32,8 +33,7 @@ use Rattle.walk.specs.Work.{stateOf, Begun}
 
 -- a refused start writes nothing
 pub start-refused : {told : Told Trace} (r : Refusal) (t q : List ℤ) (l : List ℕ) → told ≡ refused r → Walks told t q l (Refused r) t q l
-start-refused (Plain n) t q l e = rw e (record { answer = refl; temperatures = refl; rests = refl; looks = refl })
-start-refused (AtRow n i) t q l e = rw e (record { answer = refl; temperatures = refl; rests = refl; looks = refl })
+start-refused r t q l e = rw e (record { answer = refl; temperatures = refl; rests = refl; looks = refl })
 
 -- a walk that tells the same is the same
 pub walks-as : {x y : Told Trace} {t q t′ q′ : List ℤ} {l l′ : List ℕ} {a : WalkAnswer} → x ≡ y → Walks x t q l a t′ q′ l′ → Walks y t q l a t′ q′ l′
@@ -51,18 +51,9 @@ pub record Long (n temperatures rests looks : ℕ) : Type 0 where
 
 pub long-lists : (n temperatures rests looks : ℕ) → shortLists n temperatures rests looks ≡ false → Long n temperatures rests looks
 long-lists n temperatures rests looks e =
-    let a = or-both (ltb temperatures n) _ e in
-    let b = or-both (ltb rests n) (ltb looks (11 * n)) (a .1) in
+    let a = neither (ltb temperatures n) _ e in
+    let b = neither (ltb rests n) (ltb looks (11 * n)) (a .1) in
     record { long-t = ltb-false _ _ (a .0); long-r = ltb-false _ _ (b .0); long-l = ltb-false looks (11 * n) (b .1) }
-  where
-    or-both : (a b : Bool) → a || b ≡ false → (a ≡ false) × (b ≡ false)
-    or-both true b h = absurd (let z : _≡_ {A = ℕ} 0 1 = cc in omega arith)
-    or-both false b h = (refl, h)
-
--- an order in two parts is clear in each
-clear-parts : (ls ms : List Line) → Clear (ls ++ ms) → Clear ls × Clear ms
-clear-parts [] ms c = (none, c)
-clear-parts (l ∷ ls) ms (clear h c) = let q = clear-parts ls ms c in (clear h (q .0), q .1)
 
 module _ (s : List ℕ) (ch : Charge) (mk : ℤ) (numbers : List ℤ) (nt nr nl : ℕ) where
   abbrev told : Told Trace
@@ -105,8 +96,12 @@ module _ (s : List ℕ) (ch : Charge) (mk : ℤ) (numbers : List ℤ) (nt nr nl 
 
         begins-clear : Clear (chargeLines document01 ch ++ temperatureLines mk) → Begins (gasOf ch)
         begins-clear c =
-            let q = clear-parts (chargeLines document01 ch) (temperatureLines mk) c in
-            record { burns = burns-of document01 ch (q .0); covered = last-clear (q .1); gas-is = refl; runs = past-lists ∙ values-given course c }
+            record {
+              burns = burns-of document01 ch (clear-left (chargeLines document01 ch) (temperatureLines mk) c);
+              covered = last-clear (clear-right (chargeLines document01 ch) (temperatureLines mk) c);
+              gas-is = refl;
+              runs = past-lists ∙ values-given course c;
+            }
 
 -- what begins as it should runs as it should
 pub as-begun : (s : List ℕ) (ch : Charge) (t : Millikelvin) (g : Gas) (st : Standing) → gasOf ch ≡ g → Begun s g t st → stateOf st ≡ startState ch (t .0)

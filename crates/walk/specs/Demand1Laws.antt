@@ -8,11 +8,10 @@ use native.Mathlib.Nat.{le-of-suc-le-suc, not-suc-le-zero}
 use native.Mathlib.Omega.{arith}
 use lib.IntN.{ℤ, pos}
 use lib.ListN.{length, getD, take}
-use Rattle.air.specs.declared.Refusal.{Refusal}
-use Rattle.air.specs.declared.Refusal.the-variants.{Plain, AtRow}
-use Rattle.air.specs.Refusals.{Told, gives, refuses, refusesRow, refused, Line, _when_, _on-row_when_, toldBy, condition, first, lineNumber, First, Clear, Demand1}
-use Rattle.air.specs.RefusalsLaws.{by-bool, refusal-given, values-given, gives-clear, demand-1}
-use Rattle.air.specs.OrdersLaws.{one-order}
+use Rattle.refusal.specs.Refusals.{Told, gives, refused, Line, condition, first, lineNumber, First, Clear, Demand1}
+use Rattle.refusal.specs.BoolLaws.{by-bool}
+use Rattle.refusal.specs.RefusalsLaws.{refusal-given, demand-1}
+use Rattle.refusal.specs.OrdersLaws.{one-order}
 use Rattle.gas.specs.declared.Charge.{Charge}
 use Rattle.gas.specs.Burning.{Weights}
 use Rattle.gas.specs.Heat.{gasHeat}
@@ -40,11 +39,7 @@ module _ (w : Weights) (s : List ℕ) where
   -- a run whose first step is refused
   refused-now : (st : State) (p : Step) (ps : List Step) (l : Line) → First (stepOrder w s st p) l → run w s st (p ∷ ps) ≡ record { outs = []; end = cut (lineNumber l) st }
   unfolding run
-  refused-now st p ps l f = ap (λ (j : Told Out). onward st j (λ q. run w s q ps)) (judge-is w s st p ∙ refusal-given (outOf w s (asks w s st p)) f) ∙ cuts l
-    where
-      cuts : (l : Line) → onward st (toldBy l) (λ q. run w s q ps) ≡ record { outs = []; end = cut (lineNumber l) st }
-      cuts (m when c) = refl
-      cuts (m on-row r when c) = refl
+  refused-now st p ps l f = ap (λ (j : Told Out). onward st j (λ q. run w s q ps)) (judge-is w s st p ∙ refusal-given (outOf w s (asks w s st p)) f)
 
   goes-on : (st : State) (p : Step) (ps : List Step) (o : Out) → judge w s st p ≡ gives o → run w s st (p ∷ ps) ≡ more o (run w s (o .state) ps)
   unfolding run
@@ -62,13 +57,9 @@ module _ (w : Weights) (s : List ℕ) where
   first-step : (st : State) (p : Step) → First-step st p
   first-step st p = by-told (judge w s st p) refl
     where
-      line-of : (r : Refusal) → judge w s st p ≡ refused r → First-step st p
-      line-of r e = let x = demand-1-step w s st p .refusal r .0 e in is-refused (x .0) (x .1)
-
       by-told : (j : Told Out) → judge w s st p ≡ j → First-step st p
       by-told (gives o) e = is-done o e
-      by-told (refuses n) e = line-of (Plain n) e
-      by-told (refusesRow n r) e = line-of (AtRow n r) e
+      by-told (refused r) e = let x = demand-1-step w s st p .refusal r .0 e in is-refused (x .0) (x .1)
 
   -- the step after one that is done is the next of the steps
   module _ (st : State) (p : Step) (ps : List Step) (o : Out) (e : judge w s st p ≡ gives o) {i n : ℕ} {q : State} where
@@ -144,11 +135,7 @@ module _ (w : Weights) (s : List ℕ) where
 -- ---- the walk
 course-first : (ls : List Line) (t : Trace) → course (first ls t) ≡ first ls (courseOf (length (t .outs)) (t .end))
 course-first [] t = refl
-course-first (l ∷ ls) t = by-bool (condition l) (λ h. rw h (line-stays l)) (λ h. rw h (course-first ls t))
-  where
-    line-stays : (l : Line) → course (toldBy l) ≡ toldBy l
-    line-stays (n when c) = refl
-    line-stays (n on-row r when c) = refl
+course-first (l ∷ ls) t = by-bool (condition l) (λ h. rw h refl) (λ h. rw h (course-first ls t))
 
 module _ (lines : List Line) (w : Weights) (s : List ℕ) (start : Charge) (from : ℤ) (numbers : List ℤ) {t r : List ℤ} {l : List ℕ} {a : WalkAnswer} {t′ r′ : List ℤ} {l′ : List ℕ}
     (h : Walks (walked lines w s start from numbers (length t) (length r) (length l)) t r l a t′ r′ l′) where

@@ -9,8 +9,9 @@ use lib.ListN.{length, getD, take, drop, length-map, List·getD-append}
 use lib.Seq.{getD-drop, take-at, drop-at, drop-drop, length-take-le}
 use lib.Signed.{ltZ}
 use Rattle.signed.specs.Zed.{up, is-pos, is-self, is-add, is-minus, lt-by, zed}
-use Rattle.air.specs.Refusals.{Told, gives, refuses, refusesRow, Line, Clear, clear, none as nothing}
-use Rattle.air.specs.RefusalsLaws.{neither, gives-clear, values-given}
+use Rattle.refusal.specs.Refusals.{Told, gives, refused, Line, Clear, clear, none as nothing}
+use Rattle.refusal.specs.BoolLaws.{neither}
+use Rattle.refusal.specs.RefusalsLaws.{gives-clear, values-given}
 use Rattle.air.specs.Halving.{eleven}
 use Rattle.air.specs.HalvingLaws.{length-eleven}
 use Rattle.air.specs.Inverse.{rest, looks}
@@ -190,10 +191,8 @@ came-back (stopped n k ch t) m (cut j st) h = (cc, cc, cc)
 -- a refused start has nothing that came back
 began : {a : WalkAnswer} {n : ℕ} {ch : Charge} {mk : ℤ} → CameBack a n ch mk → (told : Told Trace) → paperWalk a ≡ course told → (T : Trace) × (told ≡ gives T)
 began c (gives T) h = (T, refl)
-began (done n ch t) (refuses k) h = absurd (let z : _≡_ {A = ℕ} 0 1 = cc in omega arith)
-began (done n ch t) (refusesRow k r) h = absurd (let z : _≡_ {A = ℕ} 0 1 = cc in omega arith)
-began (stopped n j ch t) (refuses k) h = absurd (let z : _≡_ {A = ℕ} 0 1 = cc in omega arith)
-began (stopped n j ch t) (refusesRow k r) h = absurd (let z : _≡_ {A = ℕ} 0 1 = cc in omega arith)
+began (done n ch t) (refused r) h = absurd (let z : _≡_ {A = ℕ} 0 1 = cc in omega arith)
+began (stopped n j ch t) (refused r) h = absurd (let z : _≡_ {A = ℕ} 0 1 = cc in omega arith)
 
 module _ (w : Weights) (s : List ℕ) (climb : AllClimb w s) (lines : List Line) (start : Charge) (from : ℤ) (numbers : List ℤ) (t r : List ℤ) (l : List ℕ) where
   abbrev steps : List Step

@@ -13,7 +13,7 @@ use lib.ListN.{length, take, drop}
 use Rattle.signed.specs.Zed.{up, inZ, eqZ, is-pos, is-self, is-add, is-minus, same-by, outside, not-outside, zed}
 use Rattle.rows.specs.Rows.{rowsH}
 use Rattle.rows.specs.Table.{column, airH}
-use Rattle.air.specs.Refusals.{Told, gives}
+use Rattle.refusal.specs.Refusals.{Told, gives}
 use Rattle.air.specs.Readings.{reading, between, airHeat}
 use Rattle.air.specs.Halving.{halvings, halving, eleven}
 use Rattle.air.specs.Inverse.{looks, Found}
@@ -26,8 +26,7 @@ use Rattle.gas.specs.Burning.{document01, beyond, lean, oxygenUsed}
 use Rattle.gas.specs.Heat.{gasHeat}
 use Rattle.gas.specs.Examples.{charge, at, air-alone, part-found}
 use Rattle.air.specs.declared.Millikelvin.{Millikelvin}
-use Rattle.air.specs.declared.Refusal.{Refusal}
-use Rattle.air.specs.declared.Refusal.the-variants.{Plain, AtRow}
+use Rattle.refusal.specs.declared.Refusal.{Refusal}
 use Rattle.gas.specs.BurningLaws.{document01-sound}
 use Rattle.walk.specs.declared.Step.{Step}
 use Rattle.walk.specs.declared.WalkAnswer.{WalkAnswer}
@@ -157,8 +156,7 @@ module _ {s : List ℕ} (ok : Accepted s) (t r : List ℤ) (l : List ℕ) (ft : 
   -- ---- the fakes: no outcome of their kind meets the promise here
   -- it refuses everything: the start, with whatever number, or the first step
   pub no-refusing-all : (a : WalkAnswer) → RefusesAll a → (t′ r′ : List ℤ) (l′ : List ℕ) → Walks told t r l a t′ r′ l′ → ⊥
-  no-refusing-all a (at-start (Plain n)) t′ r′ l′ w = let e = printed-walk (Refused (Plain n)) t′ r′ l′ w .answer in let z : _≡_ {A = ℕ} 0 1 = cc in omega arith
-  no-refusing-all a (at-start (AtRow n i)) t′ r′ l′ w = let e = printed-walk (Refused (AtRow n i)) t′ r′ l′ w .answer in let z : _≡_ {A = ℕ} 0 1 = cc in omega arith
+  no-refusing-all a (at-start r) t′ r′ l′ w = let e = printed-walk (Refused r) t′ r′ l′ w .answer in let z : _≡_ {A = ℕ} 0 1 = cc in omega arith
   no-refusing-all a (at-once n ch mk) t′ r′ l′ w = let e = printed-walk (Stopped 0 n ch mk) t′ r′ l′ w .answer in let z : _≡_ {A = ℕ} 0 1 = cc in omega arith
 
   first-temperature : (a : WalkAnswer) (x : ℤ) (t′ r′ : List ℤ) (l′ : List ℕ) → Walks told t r l a (x ∷ t′) r′ l′ → x ≡ pos 200500

@@ -12,8 +12,8 @@ use lib.IntN.{ℤ, pos, _+ℤ_, _-ℤ_}
 use lib.ListN.{length, take}
 use lib.Signed.{_≤ℤ_, _<ℤ_}
 use Rattle.signed.specs.Zed.{up, apart, is-pos, is-self, is-add, is-minus, same-by, le-by, zed, le-parts, lt-parts}
-use Rattle.air.specs.Refusals.{gives}
-use Rattle.air.specs.RefusalsLaws.{by-bool}
+use Rattle.refusal.specs.Refusals.{gives}
+use Rattle.refusal.specs.BoolLaws.{by-bool}
 use Rattle.air.specs.Inverse.{temperature, rest}
 use Rattle.air.specs.InverseLaws.{temperature-least, temperature-most, rest-least, next-exceeds}
 use Rattle.gas.specs.declared.Gas.{Gas}

@@ -3,9 +3,8 @@ use mathlib.Core.Path.{_≡_, refl, sym, _∙_}
 use mathlib.Core.List.{List}
 use Prim.Native.Nat.{ℕ}
 use lib.IntN.{ℤ}
-use Rattle.air.specs.declared.Refusal.the-variants.{Plain, AtRow}
-use Rattle.air.specs.Refusals.{Told, gives, refuses, refusesRow}
-use Rattle.air.specs.RefusalsLaws.{one-told}
+use Rattle.refusal.specs.Refusals.{Told, gives, refused}
+use Rattle.refusal.specs.RefusalsLaws.{one-told}
 use Rattle.walk.specs.declared.WalkAnswer.{WalkAnswer}
 use Rattle.walk.specs.declared.WalkAnswer.the-variants.{Done, Stopped, Refused}
 use Rattle.walk.specs.Walk.{Trace, Course, done, stopped, paperWalk, Walks}
@@ -14,15 +13,13 @@ use Rattle.walk.specs.Walk.{Trace, Course, done, stopped, paperWalk, Wal
 walkAnswer : Told Course → WalkAnswer
 walkAnswer (gives (done n ch t)) = Done n ch (record { 0 = t })
 walkAnswer (gives (stopped n number ch t)) = Stopped n number ch (record { 0 = t })
-walkAnswer (refuses n) = Refused (Plain n)
-walkAnswer (refusesRow n r) = Refused (AtRow n r)
+walkAnswer (refused r) = Refused r
 
 walk-back : (a : WalkAnswer) → walkAnswer (paperWalk a) ≡ a
 unfolding walkAnswer
 walk-back (Done n ch t) = refl
 walk-back (Stopped n number ch t) = refl
-walk-back (Refused (Plain n)) = refl
-walk-back (Refused (AtRow n r)) = refl
+walk-back (Refused r) = refl
 
 -- answer and the three lent lists
 pub one-walk : {told : Told Trace} {t r : List ℤ} {l : List ℕ} (a b : WalkAnswer) (t′ r′ t″ r″ : List ℤ) (l′ l″ : List ℕ)

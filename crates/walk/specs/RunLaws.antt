@@ -8,8 +8,8 @@ use native.Mathlib.Omega.{arith}
 use lib.IntN.{ℤ}
 use lib.Signed.{_≤ℤ_}
 use Rattle.signed.specs.Zed.{le-from, ltZ-false}
-use Rattle.air.specs.Refusals.{Told, gives, refuses, refusesRow, andThen, Clear, clear}
-use Rattle.air.specs.RefusalsLaws.{gives-clear}
+use Rattle.refusal.specs.Refusals.{Told, gives, refused, andThen, Clear, clear, numberOf}
+use Rattle.refusal.specs.RefusalsLaws.{gives-clear}
 use Rattle.air.specs.Inverse.{unreached}
 use Rattle.gas.specs.declared.Gas.{Gas}
 use Rattle.gas.specs.Burning.{Weights, lean}
@@ -35,8 +35,7 @@ record Through {A B : Type 0} (t : Told A) (f : A → Told B) (b : B) : Type 0 w
 
 through : {A B : Type 0} (t : Told A) (f : A → Told B) (b : B) → andThen t f ≡ gives b → Through t f b
 through (gives a) f b e = record { between = a; before = refl; behind = e }
-through (refuses n) f b e = absurd (let z : _≡_ {A = ℕ} 0 1 = cc in omega arith)
-through (refusesRow n r) f b e = absurd (let z : _≡_ {A = ℕ} 0 1 = cc in omega arith)
+through (refused r) f b e = absurd (let z : _≡_ {A = ℕ} 0 1 = cc in omega arith)
 
 ask-clear : (w : Weights) (g : Gas) (p : Step) → Clear (askLines w g p) → (wrongAtoms w g p ≡ false) × (wrongHeat p ≡ false) × (lean w (newGas g p) ≡ true)
 ask-clear w g p (clear a (clear b (clear c n))) = (a, b, not-false (lean w (newGas g p)) c)
@@ -62,8 +61,7 @@ module _ (w : Weights) (s : List ℕ) (P : State → List Step → Trace → Typ
     (next : (st : State) (p : Step) (ps : List Step) (o : Out) → judge w s st p ≡ gives o → P (o .state) ps (run w s (o .state) ps) → P st (p ∷ ps) (more o (run w s (o .state) ps))) where
   by-judged : (st : State) (p : Step) (ps : List Step) → ((q : State) → P q ps (run w s q ps)) → (j : Told Out) → judge w s st p ≡ j → P st (p ∷ ps) (onward st j (λ q. run w s q ps))
   by-judged st p ps ih (gives o) e = next st p ps o e (ih (o .state))
-  by-judged st p ps ih (refuses n) e = stop st p ps n
-  by-judged st p ps ih (refusesRow n r) e = stop st p ps n
+  by-judged st p ps ih (refused r) e = stop st p ps (numberOf r)
 
   pub of-run : (ps : List Step) (st : State) → P st ps (run w s st ps)
   unfolding run

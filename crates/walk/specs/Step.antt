@@ -6,7 +6,7 @@ use Prim.Native.Nat.{ℕ, _*_}
 use lib.IntN.{ℤ, pos, negℤ, _+ℤ_, _*ℤ_}
 use lib.Signed.{ltZ}
 use Rattle.signed.specs.Zed.{up, outside}
-use Rattle.air.specs.Refusals.{Told, Line, _when_, first, andThen}
+use Rattle.refusal.specs.Refusals.{Told, Line, _when_, first, andThen}
 use Rattle.air.specs.Inverse.{temperature, rest, looks, unreached}
 use Rattle.gas.specs.declared.Charge.{Charge}
 use Rattle.gas.specs.declared.Gas.{Gas}

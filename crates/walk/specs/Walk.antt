@@ -8,7 +8,7 @@ use lib.Dec.{ltb, eqb}
 use lib.IntN.{ℤ, pos}
 use lib.ListN.{length, getD, take, drop}
 use Rattle.signed.specs.Zed.{up}
-use Rattle.air.specs.Refusals.{Told, gives, refuses, refusesRow, refused, Line, _when_, first, lineNumber, First}
+use Rattle.refusal.specs.Refusals.{Told, gives, refused, Line, _when_, first, lineNumber, First, numberOf}
 use Rattle.air.specs.Halving.{eleven}
 use Rattle.gas.specs.declared.Charge.{Charge}
 use Rattle.gas.specs.declared.Gas.{Gas}
@@ -52,8 +52,7 @@ more o t = record { outs = o ∷ t .outs; end = t .end }
 -- a refused step ends the walk; from a done one it goes on
 abbrev pub onward : State → Told Out → (State → Trace) → Trace
 onward st (gives o) k = more o (k (o .state))
-onward st (refuses n) k = record { outs = []; end = cut n st }
-onward st (refusesRow n r) k = record { outs = []; end = cut n st }
+onward st (refused r) k = record { outs = []; end = cut (numberOf r) st }
 
 unfoldable pub run : Weights → List ℕ → State → List Step → Trace
 run w s st [] = record { outs = []; end = ended st }
@@ -113,8 +112,7 @@ courseOf n (cut number st) = stopped n number (chargeOf (st .gas)) (pos (st .mk)
 
 abbrev pub course : Told Trace → Told Course
 course (gives t) = gives (courseOf (length (t .outs)) (t .end))
-course (refuses n) = refuses n
-course (refusesRow n r) = refusesRow n r
+course (refused r) = refused r
 
 -- the answer as the paper has it
 abbrev pub paperWalk : WalkAnswer → Told Course
@@ -126,8 +124,7 @@ paperWalk (Refused r) = refused r
 -- the steps done: none where the start is refused
 abbrev pub outsOf : Told Trace → List Out
 outsOf (gives t) = t .outs
-outsOf (refuses n) = []
-outsOf (refusesRow n r) = []
+outsOf (refused r) = []
 
 abbrev pub temperaturesOf : List Out → List ℤ
 temperaturesOf os = map (λ (o : Out). pos (o .state .mk)) os

@@ -8,10 +8,8 @@ use lib.ListN.{getD}
 use lib.IntN.{ℤ, pos, _+ℤ_, _-ℤ_}
 use lib.Signed.{ltZ}
 use Rattle.signed.specs.Zed.{up, dn, inZ, outside}
-use Rattle.air.specs.Refusals.{Told, gives, refuses, refusesRow}
+use Rattle.refusal.specs.Refusals.{Told, gives, refused, refuses, numberOf}
 use Rattle.air.specs.declared.Millikelvin.{Millikelvin}
-use Rattle.air.specs.declared.Refusal.{Refusal}
-use Rattle.air.specs.declared.Refusal.the-variants.{Plain, AtRow}
 use Rattle.air.specs.Halving.{eleven}
 use Rattle.gas.specs.declared.Heat.{Heat}
 use Rattle.gas.specs.declared.Gas.{Gas}
@@ -90,11 +88,6 @@ pub record Asks (told : Told Asked) (s : List ℕ) (r : Ask) : Type 0 where
   pub ready : AsksOf s r
 
 -- ---- a step
--- the number of a refusal
-abbrev pub numberOf : Refusal → ℕ
-numberOf (Plain number) = number
-numberOf (AtRow number row) = number
-
 -- the state that follows from what was asked and what was found: the heat there is the target less the rest
 abbrev pub standing : Asking → Millikelvin → Heat → Standing
 standing a t rest = record { gas = a .gas; t = t; heat = record { 0 = a .target .0 -ℤ rest .0 }; fifteen = a .fifteen }
@@ -110,14 +103,12 @@ paperStep (Refused n) = refuses n
 
 abbrev pub shown : Told Out → Told Shown
 shown (gives o) = gives (record { state = o .state; rests = o .rests })
-shown (refuses n) = refuses n
-shown (refusesRow n r) = refuses n
+shown (refused r) = refuses (numberOf r)
 
 -- its eleven places of looks; a refused step writes none
 abbrev pub elevenOf : Told Out → List ℕ
 elevenOf (gives o) = eleven (o .seen)
-elevenOf (refuses n) = []
-elevenOf (refusesRow n r) = []
+elevenOf (refused r) = []
 
 -- the state after a step that is done is ready for the next
 pub data StandsAfter (s : List ℕ) : Stepped → Type 0 where

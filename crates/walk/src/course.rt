@@ -14,7 +14,7 @@ ghost use lib.IntN.{pos};
 ghost use Rattle.signed.specs.Zed.{up, inZ};
 ghost use mathlib.Core.Bool.{true};
 ghost use Rattle.rows.specs.Rows.{rowsH};
-ghost use Rattle.air.specs.Refusals.{gives};
+ghost use Rattle.refusal.specs.Refusals.{gives};
 ghost use Rattle.sheet.specs.Sheet.{Accepted};
 ghost use Rattle.gas.specs.Burning.{document01, Limits, Burns};
 ghost use Rattle.walk.specs.Walk.{chargeOf, ended, cut, courseOf, paperWalk, run, stepsOf, Walks};

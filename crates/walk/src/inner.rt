@@ -2,9 +2,9 @@
 use crate::WalkAnswer;
 use crate::course;
 use air::Millikelvin;
-use air::Refusal;
 use gas::Charge;
 use gas::inner::Admitted;
+use refusal::Refusal;
 ghost use mathlib.Core.Path.{_≡_};
 ghost use mathlib.Core.List.{[]};
 ghost use Prim.Native.Nat.{_≤_};

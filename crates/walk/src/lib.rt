@@ -6,8 +6,8 @@ pub mod inner;
 mod stepping;
 
 use air::Millikelvin;
-use air::Refusal;
 use gas::Charge;
+use refusal::Refusal;
 use sheet::SheetAnswer;
 ghost use lib.ListN.{length};
 ghost use Rattle.sheet.specs.Answers.{sheetLines};

@@ -2,7 +2,6 @@
 // the looks. Every number of a step is tested before it is worked with, and nothing is written before the step is sure.
 use crate::Step;
 use air::Millikelvin;
-use air::Refusal;
 use gas::Gas;
 use gas::Heat;
 use gas::TemperatureAnswer;
@@ -16,11 +15,11 @@ ghost use mir.Syntax.{w64};
 ghost use mir.Val.{SFits};
 ghost use Rattle.rows.specs.Rows.{rowsH};
 ghost use Rattle.signed.specs.Zed.{up};
-ghost use Rattle.air.specs.Refusals.{first, _when_};
+ghost use Rattle.refusal.specs.Refusals.{first, _when_};
 ghost use Rattle.sheet.specs.Sheet.{Accepted};
 ghost use Rattle.gas.specs.Burning.{document01, Limits};
 ghost use Rattle.walk.specs.Step.{newGas, stepHeat, wrongAtoms, wrongHeat, asked, held, judge};
-ghost use Rattle.walk.specs.Work.{stateOf, Stands, numberOf, wrongCount, paperAtoms, paperGrown, InReach, Asks, standing, StepGives};
+ghost use Rattle.walk.specs.Work.{stateOf, Stands, wrongCount, paperAtoms, paperGrown, InReach, Asks, standing, StepGives};
 
 // Where a walk stands: its gas and temperature, with the gas heat there and at 15 °C, so that no step works either out again.
 pub(crate) struct Standing {
@@ -59,16 +58,6 @@ pub(crate) enum Atoms {
 pub(crate) enum Grown {
     To(Gas),
     Beyond,
-}
-
-// The number of a refusal.
-fn number_of(r: Refusal) -> u32
-    ensures { λ n. ⌜ n ≡ numberOf r ⌝ }
-{
-    match r {
-        Refusal::Plain(number) => number,
-        Refusal::AtRow(number, _) => number,
-    }
 }
 
 // calorific value or q outside range
@@ -197,7 +186,7 @@ pub(crate) fn step(
             let gas = asked.gas;
             let target = asked.target;
             match gas::inner::find(gas, target, looks, sheet, air) {
-                TemperatureAnswer::Refused(r) => Stepped::Refused(number_of(r)),
+                TemperatureAnswer::Refused(r) => Stepped::Refused(refusal::number_of(r)),
                 TemperatureAnswer::At(t, rest) => Stepped::Done(stand(asked, t, rest), rest),
             }
         }

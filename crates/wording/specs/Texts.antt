@@ -7,9 +7,9 @@ use lib.Dec.{eqb}
 use lib.IntN.{ℤ, pos}
 use lib.ListN.{length}
 use Rattle.text.specs.Decimal.{decimal, decimalZ}
-use Rattle.air.specs.declared.Refusal.{Refusal}
-use Rattle.air.specs.declared.Refusal.the-variants.{Plain, AtRow}
-use Rattle.air.specs.Refusals.{Told, gives, refuses, refusesRow}
+use Rattle.refusal.specs.declared.Refusal.{Refusal}
+use Rattle.refusal.specs.declared.Refusal.the-variants.{Plain, At}
+use Rattle.refusal.specs.Refusals.{Told, gives, refused}
 use Rattle.air.specs.Inverse.{Found}
 use Rattle.gas.specs.declared.Products.{Products}
 use Rattle.gas.specs.declared.Charge.{Charge}
@@ -31,13 +31,12 @@ fieldsText (z ∷ zs) = (9 ∷ decimalZ z) ++ fieldsText zs
 -- a refusal: its number and, where there is one, its row
 abbrev pub refusalText : Refusal → List ℕ
 refusalText (Plain number) = refusedText ++ (9 ∷ decimal number)
-refusalText (AtRow number row) = (refusedText ++ (9 ∷ decimal number)) ++ (9 ∷ decimal row)
+refusalText (At number row) = (refusedText ++ (9 ∷ decimal number)) ++ (9 ∷ decimal row)
 
 -- what a call tells: its values in their text, or the refusal
 abbrev pub toldText : {A : Type 0} → (A → List ℕ) → Told A → List ℕ
 toldText values (gives a) = values a
-toldText values (refuses number) = refusalText (Plain number)
-toldText values (refusesRow number row) = refusalText (AtRow number row)
+toldText values (refused r) = refusalText r
 
 -- a reading of the air table
 abbrev pub readingText : Told ℕ → List ℕ

@@ -15,17 +15,15 @@ use Rattle.text.specs.Decimal.{decimal}
 use Rattle.air.specs.Halving.{halving, eleven}
 use Rattle.air.specs.HalvingLaws.{halving-ind}
 use Rattle.air.specs.Inverse.{fits, looks, Found, written}
-use Rattle.air.specs.declared.Refusal.{Refusal}
-use Rattle.air.specs.declared.Refusal.the-variants.{Plain, AtRow}
 use Rattle.air.specs.declared.PsiAnswer.{PsiAnswer}
-use Rattle.air.specs.Refusals.{Told, gives, refuses, refusesRow, refused}
+use Rattle.refusal.specs.Refusals.{Told, gives, refused}
 use Rattle.air.specs.Answers.{PsiInverse, paperPsi, psiInverseTold, psiValue}
 use Rattle.gas.specs.declared.Charge.{Charge}
 use Rattle.gas.specs.declared.TemperatureAnswer.{TemperatureAnswer}
 use Rattle.gas.specs.Burning.{document01, gasOf}
 use Rattle.gas.specs.Heat.{gasHeat}
 use Rattle.gas.specs.Answers.{paperTemperature, temperatureTold, Temperature}
-use Rattle.wording.specs.Texts.{fieldsText, refusalText, toldText, used, inverseText}
+use Rattle.wording.specs.Texts.{fieldsText, used, inverseText}
 
 -- looks before the first unused place
 module _ (l : List ℕ) (i : ℕ) (h : i < length l) where
@@ -92,16 +90,10 @@ used-eleven v t = used-above (11 - length (looks v t)) (above (eqZ t (v 2000000)
     above true = none
     above false = halving-above (λ k. fits v t (1000 * k))
 
--- a refusal in its text, whatever the values would be
-pub told-refused : {A : Type 0} (values : A → List ℕ) (r : Refusal) → toldText values (refused r) ≡ refusalText r
-told-refused values (Plain number) = refl
-told-refused values (AtRow number row) = refl
-
 -- an inverse from the places that it was lent, eleven of them and all 0 before: they hold its looks
 pub inverse-shown : (v : ℕ → ℤ) (t : ℤ) (told : Told Found) → inverseText told (used (written told (looks v t) (replicate 11 0))) ≡ inverseText told (looks v t)
 inverse-shown v t (gives f) = ap (inverseText (gives f)) (ap used (append-nil (eleven (looks v t))) ∙ used-eleven v t)
-inverse-shown v t (refuses n) = refl
-inverse-shown v t (refusesRow n r) = refl
+inverse-shown v t (refused r) = refl
 
 pub psi-shown : {target : ℤ} {r : PsiAnswer} {after : List ℕ} → PsiInverse target (replicate 11 0) r after
     → inverseText (paperPsi r) (used after) ≡ inverseText (psiInverseTold 11 target) (looks psiValue target)

@@ -3,13 +3,13 @@
 use air::Millikelvin;
 use air::PsiAnswer;
 use air::Reading;
-use air::Refusal;
 use gas::Charge;
 use gas::HeatAnswer;
 use gas::Products;
 use gas::SpecificAnswer;
 use gas::TemperatureAnswer;
 use marking::MarkAnswer;
+use refusal::Refusal;
 use walk::WalkAnswer;
 ghost use Prim.Native.Nat.{_≤_};
 ghost use mathlib.Core.Path.{_≡_};
@@ -47,7 +47,7 @@ pub fn put_refusal(refusal: Refusal, out: &mut [u8], at: usize) -> usize
     let next = text::put_text(b"refused", out, at);
     match refusal {
         Refusal::Plain(number) => put_number(number as u64, out, next),
-        Refusal::AtRow(number, row) => {
+        Refusal::At(number, row) => {
             let after = put_number(number as u64, out, next);
             put_number(row as u64, out, after)
         }

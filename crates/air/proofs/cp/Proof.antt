@@ -5,7 +5,7 @@ use Prim.Native.Nat.{ℕ}
 use Rattle.rows.specs.Table.{column, airCp}
 use Rattle.rows.specs.Rows.{rowsCp}
 use Rattle.signed.specs.Zed.{in-plain, tested, tested-plain, tested-nat}
-use Rattle.air.specs.Refusals.{gives}
+use Rattle.refusal.specs.Refusals.{gives}
 use Rattle.air.proofs.cp.Statement.{statement}
 use Rattle.air.proofs.cp.Tie as tie
 

@@ -8,7 +8,7 @@ use Rattle.rows.specs.Table.{column}
 use Rattle.signed.specs.Zed.{tested, tested-plain, tested-nat}
 use Rattle.air.specs.ReadingsLaws.{heat-read, H-never-falls}
 use Rattle.air.specs.Readings.{airHeat, NeverFalls}
-use Rattle.air.specs.Refusals.{gives}
+use Rattle.refusal.specs.Refusals.{gives}
 use Rattle.air.proofs.heat.Statement.{statement}
 use Rattle.air.proofs.heat.Tie as tie
 

@@ -10,9 +10,9 @@ use lib.Signed.{ltZ, _≤ℤ_}
 use mir.Syntax.{w64}
 use mir.Val.{SFits, toZ, ofZ}
 use Rattle.signed.specs.Zed.{back, lt-read, apart, zed}
-use Rattle.air.specs.declared.Refusal.the-variants.{Plain}
+use Rattle.refusal.specs.declared.Refusal.the-variants.{Plain}
 use Rattle.air.specs.declared.PsiAnswer.the-variants.{Refused}
-use Rattle.air.specs.Refusals.{here, after, none, clear, Clear}
+use Rattle.refusal.specs.Refusals.{here, after, none, clear, Clear}
 use Rattle.air.specs.Answers.{psiValue, psiOrder}
 use Rattle.air.proofs.PsiSearch.{psi-whole, psi-end, psi-refused, psi-answered}
 use Rattle.air.proofs.psi_inverse.Statement.{statement}

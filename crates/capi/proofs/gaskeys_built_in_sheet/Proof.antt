@@ -4,8 +4,11 @@ use Rattle.capi.proofs.Promised.{built-in-refused, built-in-told}
 use Rattle.capi.proofs.gaskeys_built_in_sheet.Statement.{statement}
 use Rattle.capi.proofs.gaskeys_built_in_sheet.Tie as tie
 
+tell-sheet-requires : tie.Need-tell-sheet-requires
+tell-sheet-requires c κs = search needs
+
 returns : tie.Need-returns
-returns c = built-in-refused (c .before .before .args .list .now) (c .if1 .taken)
+returns c = rw (c .tell-sheet .ensures) (built-in-refused (c .before .before .before .args .list .now) (c .before .if1 .taken))
 
 sheet-requires : tie.Need-sheet-requires
 sheet-requires c κs = search needs
@@ -21,4 +24,4 @@ returns-2 c = built-in-told (c .before .before .before .before .before .before .
 
 pub gaskeys-built-in-sheet-spec : {M : Type 1} → statement M
 gaskeys-built-in-sheet-spec =
-    tie.close (tie.spec returns sheet-requires copy-requires same-length returns-2)
+    tie.close (tie.spec tell-sheet-requires returns sheet-requires copy-requires same-length returns-2)

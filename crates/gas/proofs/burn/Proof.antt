@@ -2,12 +2,12 @@ use borrow.Author.Needs.{needs}
 use mathlib.Core.Path.{_≡_, sym, ap, _∙_}
 use mathlib.Core.List.{[]}
 use Rattle.signed.specs.Zed.{back}
-use Rattle.air.specs.Refusals.{gives, first}
+use Rattle.refusal.specs.Refusals.{gives, first}
 use Rattle.gas.specs.declared.Charge.{Charge}
 use Rattle.gas.specs.Burning.{document01, gasOf, products}
 use Rattle.gas.specs.BurningLaws.{admitted}
 use Rattle.gas.specs.Answers.{paperGas, chargeLines}
-use Rattle.air.specs.OrdersLaws.{told-through, stopped}
+use Rattle.refusal.specs.OrdersLaws.{told-through, stopped}
 use Rattle.gas.proofs.burn.Statement.{statement}
 use Rattle.gas.proofs.burn.Tie as tie
 

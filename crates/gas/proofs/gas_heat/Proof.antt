@@ -1,9 +1,9 @@
 use borrow.Author.Needs.{needs}
 use mathlib.Core.Path.{_≡_, sym, ap, _∙_}
 use mathlib.Core.List.{[]}
-use Rattle.air.specs.Refusals.{gives, first}
+use Rattle.refusal.specs.Refusals.{gives, first}
 use Rattle.signed.specs.Zed.{up}
-use Rattle.air.specs.OrdersLaws.{told-through, stopped}
+use Rattle.refusal.specs.OrdersLaws.{told-through, stopped}
 use Rattle.gas.specs.AnswersLaws.{readable-of}
 use Rattle.gas.specs.Answers.{paperGas, heatOrder}
 use Rattle.gas.specs.Heat.{gasHeat}

@@ -2,7 +2,7 @@ use borrow.Author.Needs.{needs}
 use mathlib.Core.Path.{sym, ap, _∙_}
 use mathlib.Core.List.{_++_}
 use Rattle.sheet.specs.Answers.{paper, sheetLines}
-use Rattle.air.specs.OrdersLaws.{stopped, passed}
+use Rattle.refusal.specs.OrdersLaws.{stopped, passed}
 use Rattle.gas.specs.Answers.{chargeLines, temperatureLines}
 use Rattle.gas.specs.Burning.{document01}
 use Rattle.gas.proofs.readable.Statement.{statement}

@@ -3,9 +3,9 @@ use borrow.Author.Needs.{needs}
 use mathlib.Core.Path.{_≡_, refl, sym, ap, _∙_}
 use mathlib.Core.List.{_∷_}
 use lib.Dec.{ltb}
-use Rattle.air.specs.Refusals.{gives, first, _when_}
+use Rattle.refusal.specs.Refusals.{gives, first, _when_}
 use Rattle.sheet.specs.Answers.{paper, sheetLines}
-use Rattle.air.specs.OrdersLaws.{stopped, passed}
+use Rattle.refusal.specs.OrdersLaws.{stopped, passed}
 use Rattle.gas.specs.Answers.{chargeLines}
 use Rattle.gas.specs.Burning.{document01}
 use Rattle.gas.proofs.searchable.Statement.{statement}

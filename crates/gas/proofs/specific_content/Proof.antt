@@ -3,9 +3,9 @@ use mathlib.Core.Path.{_≡_, sym, ap, _∙_}
 use mathlib.Core.List.{[]}
 use mir.Syntax.{w64}
 use mir.Val.{SFits}
-use Rattle.air.specs.Refusals.{gives, first}
+use Rattle.refusal.specs.Refusals.{gives, first}
 use Rattle.signed.specs.Zed.{up, back}
-use Rattle.air.specs.OrdersLaws.{told-through, stopped}
+use Rattle.refusal.specs.OrdersLaws.{told-through, stopped}
 use Rattle.gas.specs.AnswersLaws.{readable-of}
 use Rattle.gas.specs.Answers.{paperGas, heatOrder}
 use Rattle.gas.specs.Heat.{specificContent}

@@ -1,8 +1,8 @@
 use borrow.Author.Needs.{needs}
 use mathlib.Core.Path.{_≡_, sym, ap, _∙_}
 use lib.ListN.{length}
-use Rattle.air.specs.Refusals.{gives, first}
-use Rattle.air.specs.OrdersLaws.{given}
+use Rattle.refusal.specs.Refusals.{gives, first}
+use Rattle.refusal.specs.OrdersLaws.{given}
 use Rattle.gas.specs.AnswersLaws.{searchable-of, stopped-told, passed-told}
 use Rattle.gas.specs.Answers.{paperGas, searchOrder}
 use Rattle.gas.specs.Heat.{gasHeat}

@@ -11,7 +11,7 @@ use lib.Ieee.Exact.{HasValue}
 use mir.Syntax.{w64}
 use mir.Val.{toZ, ofZ}
 use Rattle.signed.specs.Zed.{back}
-use Rattle.air.specs.Refusals.{gives, first, _when_}
+use Rattle.refusal.specs.Refusals.{gives, first, _when_}
 use Rattle.marking.specs.Marking.{near}
 use Rattle.marking.specs.Exact.{turned, sized}
 use Rattle.marking.proofs.Spans.{near-value}

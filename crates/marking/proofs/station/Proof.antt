@@ -4,8 +4,8 @@ use mathlib.Core.Path.{_≡_, sym, ap, _∙_}
 use mathlib.Core.List.{[], _++_}
 use lib.IntN.{pos}
 use Rattle.signed.specs.Zed.{up}
-use Rattle.air.specs.Refusals.{gives, first}
-use Rattle.air.specs.OrdersLaws.{told-through, stopped, passed}
+use Rattle.refusal.specs.Refusals.{gives, first}
+use Rattle.refusal.specs.OrdersLaws.{told-through, stopped, passed}
 use Rattle.sheet.specs.Answers.{paper, sheetLines}
 use Rattle.gas.specs.declared.Gas.{Gas}
 use Rattle.gas.specs.Burning.{document01, gasOf, totalMass}

@@ -1,4 +1,3 @@
-use Rattle.wording.specs.TextsLaws.{told-refused}
 use borrow.Author.Needs.{needs}
 use Rattle.wording.proofs.put_mark.Statement.{statement}
 use Rattle.wording.proofs.put_mark.Tie as tie
@@ -43,7 +42,7 @@ same-length-3 : tie.Need-same-length-3
 same-length-3 c = search needs
 
 returns-3 : tie.Need-returns-3
-returns-3 c = rw (c .before .before .before .before .before .answer .given .1, told-refused) (c .before .before .put-refusal .ensures)
+returns-3 c = rw (c .before .before .before .before .before .answer .given .1) (c .before .before .put-refusal .ensures)
 
 pub put-mark-spec : {M : Type 1} → statement M
 put-mark-spec =

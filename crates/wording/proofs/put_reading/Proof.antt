@@ -1,4 +1,3 @@
-use Rattle.wording.specs.TextsLaws.{told-refused}
 use Rattle.text.specs.PutLaws.{put-then}
 use borrow.Author.Needs.{needs}
 use Rattle.wording.proofs.put_reading.Statement.{statement}
@@ -32,7 +31,7 @@ same-length-2 : tie.Need-same-length-2
 same-length-2 c = search needs
 
 returns-2 : tie.Need-returns-2
-returns-2 c = rw (c .before .before .before .before .before .reading2 .given .1, told-refused) (c .before .before .put-refusal .ensures)
+returns-2 c = rw (c .before .before .before .before .before .reading2 .given .1) (c .before .before .put-refusal .ensures)
 
 pub put-reading-spec : {M : Type 1} → statement M
 put-reading-spec =

@@ -9,8 +9,11 @@ number-of-requires c κs = search needs
 row-of-requires : tie.Need-row-of-requires
 row-of-requires c κs = search needs
 
+placed-of-requires : tie.Need-placed-of-requires
+placed-of-requires c κs = search needs
+
 returns : tie.Need-returns
-returns c = heat-refused (c .before .before .args .r) (c .before .number-of .ensures) (c .row-of .ensures)
+returns c = heat-refused (c .before .before .before .args .r) (c .before .before .number-of .ensures) (c .before .row-of .ensures) (c .placed-of .ensures)
 
 pub no-heat-spec : {M : Type 1} → statement M
-no-heat-spec = tie.close (tie.spec number-of-requires row-of-requires returns)
+no-heat-spec = tie.close (tie.spec number-of-requires row-of-requires placed-of-requires returns)

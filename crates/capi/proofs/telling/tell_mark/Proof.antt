@@ -22,6 +22,9 @@ number-of-requires c κs = search needs
 row-of-requires : tie.Need-row-of-requires
 row-of-requires c κs = search needs
 
+placed-of-requires : tie.Need-placed-of-requires
+placed-of-requires c κs = search needs
+
 returns : tie.Need-returns
 returns c = sym (ap (λ (a : MarkAnswer). flatMark (paper a)) (c .enum-told .given .1))
 
@@ -29,7 +32,7 @@ returns-2 : tie.Need-returns-2
 returns-2 c = sym (ap (λ (a : MarkAnswer). flatMark (paper a)) (c .enum-told2 .given .1))
 
 returns-3 : tie.Need-returns-3
-returns-3 c = mark-refused (c .before .before .before .answer .given .0 .0) (c .before .number-of .ensures) (c .row-of .ensures) ∙ sym (ap (λ (a : MarkAnswer). flatMark (paper a)) (c .before .before .before .answer .given .1))
+returns-3 c = mark-refused (c .before .before .before .before .answer .given .0 .0) (c .before .before .number-of .ensures) (c .before .row-of .ensures) (c .placed-of .ensures) ∙ sym (ap (λ (a : MarkAnswer). flatMark (paper a)) (c .before .before .before .before .answer .given .1))
 
 pub tell-mark-spec : {M : Type 1} → statement M
 tell-mark-spec =
@@ -40,6 +43,7 @@ tell-mark-spec =
     enum-known-answer
     number-of-requires
     row-of-requires
+    placed-of-requires
     returns
     returns-2
     returns-3)

@@ -19,11 +19,14 @@ number-of-requires c κs = search needs
 row-of-requires : tie.Need-row-of-requires
 row-of-requires c κs = search needs
 
+placed-of-requires : tie.Need-placed-of-requires
+placed-of-requires c κs = search needs
+
 returns : tie.Need-returns
 returns c = psi-found (search needs) ∙ sym (ap (λ (a : PsiAnswer). flatPsi (paperPsi a)) (c .before .before .answer .given .1))
 
 returns-2 : tie.Need-returns-2
-returns-2 c = psi-refused (c .before .before .before .answer2 .given .0 .0) (c .before .number-of .ensures) (c .row-of .ensures) ∙ sym (ap (λ (a : PsiAnswer). flatPsi (paperPsi a)) (c .before .before .before .answer2 .given .1))
+returns-2 c = psi-refused (c .before .before .before .before .answer2 .given .0 .0) (c .before .before .number-of .ensures) (c .before .row-of .ensures) (c .placed-of .ensures) ∙ sym (ap (λ (a : PsiAnswer). flatPsi (paperPsi a)) (c .before .before .before .before .answer2 .given .1))
 
 pub tell-psi-spec : {M : Type 1} → statement M
 tell-psi-spec =
@@ -33,5 +36,6 @@ tell-psi-spec =
     enum-known-answer-2
     number-of-requires
     row-of-requires
+    placed-of-requires
     returns
     returns-2)

@@ -19,13 +19,16 @@ number-of-requires c κs = search needs
 row-of-requires : tie.Need-row-of-requires
 row-of-requires c κs = search needs
 
+placed-of-requires : tie.Need-placed-of-requires
+placed-of-requires c κs = search needs
+
 returns : tie.Need-returns
 returns c = sym (ap (λ (a : SheetAnswer). flatSheet (paper a)) (c .enum-told .given .1))
 
 returns-2 : tie.Need-returns-2
-returns-2 c = sheet-refused (c .before .before .before .answer .given .0 .0) (c .before .number-of .ensures) (c .row-of .ensures) ∙ sym (ap (λ (a : SheetAnswer). flatSheet (paper a)) (c .before .before .before .answer .given .1))
+returns-2 c = sheet-refused (c .before .before .before .before .answer .given .0 .0) (c .before .before .number-of .ensures) (c .before .row-of .ensures) (c .placed-of .ensures) ∙ sym (ap (λ (a : SheetAnswer). flatSheet (paper a)) (c .before .before .before .before .answer .given .1))
 
 pub tell-sheet-spec : {M : Type 1} → statement M
 tell-sheet-spec =
     tie.close
-    (tie.spec enum-told enum-known-answer number-of-requires row-of-requires returns returns-2)
+    (tie.spec enum-told enum-known-answer number-of-requires row-of-requires placed-of-requires returns returns-2)

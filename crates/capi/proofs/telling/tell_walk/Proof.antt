@@ -28,6 +28,9 @@ number-of-requires c κs = search needs
 row-of-requires : tie.Need-row-of-requires
 row-of-requires c κs = search needs
 
+placed-of-requires : tie.Need-placed-of-requires
+placed-of-requires c κs = search needs
+
 returns : tie.Need-returns
 returns c = c .tell-begun .ensures ∙ sym (ap (λ (a : WalkAnswer). flatWalk (paperWalk a)) (c .before .before .answer .given .1))
 
@@ -35,7 +38,7 @@ returns-2 : tie.Need-returns-2
 returns-2 c = c .tell-begun2 .ensures ∙ sym (ap (λ (a : WalkAnswer). flatWalk (paperWalk a)) (c .before .before .answer2 .given .1))
 
 returns-3 : tie.Need-returns-3
-returns-3 c = walk-refused (c .before .before .before .answer3 .given .0 .0) (c .before .number-of .ensures) (c .row-of .ensures) ∙ sym (ap (λ (a : WalkAnswer). flatWalk (paperWalk a)) (c .before .before .before .answer3 .given .1))
+returns-3 c = walk-refused (c .before .before .before .before .answer3 .given .0 .0) (c .before .before .number-of .ensures) (c .before .row-of .ensures) (c .placed-of .ensures) ∙ sym (ap (λ (a : WalkAnswer). flatWalk (paperWalk a)) (c .before .before .before .before .answer3 .given .1))
 
 pub tell-walk-spec : {M : Type 1} → statement M
 tell-walk-spec =
@@ -48,6 +51,7 @@ tell-walk-spec =
     enum-known-answer-3
     number-of-requires
     row-of-requires
+    placed-of-requires
     returns
     returns-2
     returns-3)

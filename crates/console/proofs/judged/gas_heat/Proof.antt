@@ -3,7 +3,7 @@ use Rattle.console.specs.JudgedLaws.{past-heat}
 use Rattle.gas.specs.Answers.{paperGas, heatOrder}
 use Rattle.gas.specs.Burning.{document01, gasOf}
 use Rattle.gas.specs.AnswersLaws.{readable-of}
-use Rattle.air.specs.OrdersLaws.{told-through, stopped}
+use Rattle.refusal.specs.OrdersLaws.{told-through, stopped}
 use Rattle.gas.specs.declared.Gas.{Gas}
 use Rattle.signed.specs.Zed.{up}
 use mathlib.Core.List.{[]}

@@ -3,7 +3,7 @@ use Rattle.gas.specs.Answers.{paperGas, searchOrder}
 use Rattle.gas.specs.Heat.{gasHeat}
 use Rattle.gas.specs.Burning.{document01, gasOf}
 use Rattle.gas.specs.AnswersLaws.{searchable-of, stopped-told, passed-told}
-use Rattle.air.specs.OrdersLaws.{given}
+use Rattle.refusal.specs.OrdersLaws.{given}
 use lib.ListN.{length}
 use mathlib.Core.Path.{sym, ap, _∙_}
 use borrow.Author.Needs.{needs}

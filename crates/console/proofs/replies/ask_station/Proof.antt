@@ -1,4 +1,3 @@
-use Rattle.wording.specs.TextsLaws.{told-refused}
 use Rattle.console.specs.JudgedLaws.{past-heat}
 use Rattle.wording.specs.Texts.{Figures, figuresText, toldText}
 use Rattle.marking.specs.Figures.{stationSpecific, stationMass}
@@ -7,8 +6,8 @@ use Rattle.gas.specs.Answers.{paperGas, heatOrder}
 use Rattle.gas.specs.Heat.{specificContent}
 use Rattle.gas.specs.Burning.{document01, gasOf, totalMass}
 use Rattle.gas.specs.declared.Gas.{Gas}
-use Rattle.air.specs.OrdersLaws.{told-through, stopped}
-use Rattle.air.specs.Refusals.{Told}
+use Rattle.refusal.specs.OrdersLaws.{told-through, stopped}
+use Rattle.refusal.specs.Refusals.{Told}
 use Rattle.text.specs.Put.{Put}
 use Rattle.signed.specs.Zed.{up}
 use lib.IntN.{pos}
@@ -74,7 +73,7 @@ same-length-2 c = search needs
 returns-2 : tie.Need-returns-2
 returns-2 c =
     let told = stopped {B = Figures} (heatOrder document01 (c .before .before .before .before .before .before .before .before .before .before .args .charge) (c .before .before .before .before .before .before .before .before .before .before .args .mk) (c .before .before .before .before .before .before .before .before .before .before .args .sheet .now)) [] (gasOf (c .before .before .before .before .before .before .before .before .before .before .args .charge)) (record { mk = (c .before .before .before .before .before .before .before .before .before .before .args .mk); specific = stationSpecific (c .before .before .before .before .before .before .before .before .before .before .args .charge) (c .before .before .before .before .before .before .before .before .before .before .args .mk) (c .before .before .before .before .before .before .before .before .before .before .args .sheet .now); mass = stationMass (c .before .before .before .before .before .before .before .before .before .before .args .charge) }) (c .before .before .before .before .before .refusal .given .0 .0) (past-heat (c .before .before .before .before .before .before .before .before .before .before .pre) document01 (c .before .before .before .before .before .before .before .before .before .before .args .charge) (c .before .before .before .before .before .before .before .before .before .before .args .mk) (ap paperGas (sym (c .before .before .before .before .before .refusal .given .1)) ∙ (rw (back (c .before .before .before .before .before .before .before .before .before .before .fits .mk)) at (c .before .before .before .before .before .before .before .admit-at .ensures)))) in
-    subst (λ (x : Told Figures). Put (toldText figuresText x) (c .before .before .before .before .before .before .before .before .before .before .args .out .now) (c .before .before .before .before .before .before .before .before .before .before .args .at) (c .before .before .put-refusal .result) (c .before .before .put-refusal .last .1 .0)) told (rw told-refused (c .before .before .put-refusal .ensures))
+    subst (λ (x : Told Figures). Put (toldText figuresText x) (c .before .before .before .before .before .before .before .before .before .before .args .out .now) (c .before .before .before .before .before .before .before .before .before .before .args .at) (c .before .before .put-refusal .result) (c .before .before .put-refusal .last .1 .0)) told (c .before .before .put-refusal .ensures)
 
 pub ask-station-spec : {M : Type 1} → statement M
 ask-station-spec =

@@ -1,4 +1,3 @@
-use Rattle.wording.specs.TextsLaws.{told-refused}
 use borrow.Author.Needs.{needs}
 use Rattle.console.proofs.replies.put_burnt.Statement.{statement}
 use Rattle.console.proofs.replies.put_burnt.Tie as tie
@@ -25,7 +24,7 @@ same-length-2 : tie.Need-same-length-2
 same-length-2 c = search needs
 
 returns-2 : tie.Need-returns-2
-returns-2 c = rw (c .before .before .before .before .before .answer2 .given .1, told-refused) (c .before .before .put-refusal .ensures)
+returns-2 c = rw (c .before .before .before .before .before .answer2 .given .1) (c .before .before .put-refusal .ensures)
 
 pub put-burnt-spec : {M : Type 1} → statement M
 put-burnt-spec =

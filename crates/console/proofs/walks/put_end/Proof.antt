@@ -15,17 +15,11 @@ put-refused-requires c κs = search needs
 enum-known-answer-2 : tie.Need-enum-known-answer-2
 enum-known-answer-2 c = search needs
 
-enum-known-refusal : tie.Need-enum-known-refusal
-enum-known-refusal c = search needs
+number-of-requires : tie.Need-number-of-requires
+number-of-requires c κs = search needs
 
 put-refused-requires-2 : tie.Need-put-refused-requires-2
 put-refused-requires-2 c κs = search needs
-
-enum-known-refusal-2 : tie.Need-enum-known-refusal-2
-enum-known-refusal-2 c = search needs
-
-put-refused-requires-3 : tie.Need-put-refused-requires-3
-put-refused-requires-3 c κs = search needs
 
 returns : tie.Need-returns
 returns c = rw (c .enum-told .given .1) (put-none (c .before .before .before .args .out .now) (c .before .before .before .args .at) (c .before .before .before .pre))
@@ -40,13 +34,7 @@ same-length-2 : tie.Need-same-length-2
 same-length-2 c = search needs
 
 returns-3 : tie.Need-returns-3
-returns-3 c = rw (c .before .before .before .before .before .before .before .before .answer2 .given .1, c .before .before .before .before .before .refusal .given .1) (c .before .before .put-refused2 .ensures)
-
-same-length-3 : tie.Need-same-length-3
-same-length-3 c = search needs
-
-returns-4 : tie.Need-returns-4
-returns-4 c = rw (c .before .before .before .before .before .before .before .before .answer2 .given .1, c .before .before .before .before .before .refusal2 .given .1) (c .before .before .put-refused3 .ensures)
+returns-3 c = rw (c .before .before .before .before .before .before .answer2 .given .1, ← c .before .before .before .before .number-of .ensures) (c .before .before .put-refused2 .ensures)
 
 pub put-end-spec : {M : Type 1} → statement M
 put-end-spec =
@@ -56,14 +44,10 @@ put-end-spec =
     enum-known-answer
     put-refused-requires
     enum-known-answer-2
-    enum-known-refusal
+    number-of-requires
     put-refused-requires-2
-    enum-known-refusal-2
-    put-refused-requires-3
     returns
     same-length
     returns-2
     same-length-2
-    returns-3
-    same-length-3
-    returns-4)
+    returns-3)

@@ -1,4 +1,3 @@
-use Rattle.console.specs.WalksLaws.{none-done}
 use mathlib.Core.Path.{refl}
 use borrow.Author.Needs.{needs}
 use Rattle.console.proofs.walks.steps_done.Statement.{statement}
@@ -26,7 +25,7 @@ returns-2 : tie.Need-returns-2
 returns-2 c = rw (c .before .answer2 .given .1) refl
 
 returns-3 : tie.Need-returns-3
-returns-3 c = rw (c .enum-told .given .1) (none-done (c .enum-told .given .0 .0))
+returns-3 c = rw (c .enum-told .given .1) refl
 
 pub steps-done-spec : {M : Type 1} → statement M
 steps-done-spec =

@@ -1,7 +1,7 @@
 use borrow.Author.Needs.{needs}
 use mathlib.Core.Path.{_≡_, refl, sym, ap, _∙_}
 use mathlib.Core.Bool.{Bool, not}
-use Rattle.air.specs.Refusals.{gives}
+use Rattle.refusal.specs.Refusals.{gives}
 use Rattle.gas.specs.declared.Gas.{Gas}
 use Rattle.gas.specs.Burning.{document01, lean}
 use Rattle.gas.specs.BurningLaws.{limits-of}

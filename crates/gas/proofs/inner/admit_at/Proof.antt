@@ -1,7 +1,7 @@
 use borrow.Author.Needs.{needs}
 use mathlib.Core.Path.{_≡_, refl, sym, ap, _∙_}
-use Rattle.air.specs.Refusals.{gives, first}
-use Rattle.air.specs.OrdersLaws.{stopped, passed, given}
+use Rattle.refusal.specs.Refusals.{gives, first}
+use Rattle.refusal.specs.OrdersLaws.{stopped, passed, given}
 use Rattle.gas.specs.Answers.{paperGas, chargeLines, temperatureLines}
 use Rattle.gas.specs.Burning.{document01, gasOf}
 use Rattle.gas.proofs.inner.admit_at.Statement.{statement}

@@ -5,8 +5,8 @@ use native.Mathlib.Omega.{arith}
 use lib.Signed.{ltZ}
 use mir.Val.{SFits, toZ, ofZ}
 use mir.Syntax.{w64}
-use Rattle.air.specs.Refusals.{here, after, clear, none}
-use Rattle.air.specs.declared.Refusal.the-variants.{Plain}
+use Rattle.refusal.specs.Refusals.{here, after, clear, none}
+use Rattle.refusal.specs.declared.Refusal.the-variants.{Plain}
 use Rattle.signed.specs.Zed.{lt-read, zed}
 use Rattle.gas.specs.AnswersLaws.{unreached-told, reached-told}
 use Rattle.gas.specs.Sizes.{Ready}

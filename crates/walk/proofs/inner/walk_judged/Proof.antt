@@ -6,8 +6,8 @@ use native.Mathlib.Omega.{arith}
 use lib.ListN.{length}
 use Rattle.gas.specs.Answers.{paperGas}
 use Rattle.gas.specs.Burning.{document01}
-use Rattle.air.specs.Refusals.{gives}
-use Rattle.air.specs.declared.Refusal.the-variants.{Plain}
+use Rattle.refusal.specs.Refusals.{gives}
+use Rattle.refusal.specs.declared.Refusal.the-variants.{Plain}
 use Rattle.walk.specs.Walk.{run, stepsOf, wrongSteps, shortLists}
 use Rattle.walk.specs.Step.{State}
 use Rattle.walk.proofs.Start.{start-refused, walks-as, few-steps, long-lists, told-13, told-10, told-start, Begins, told-begins, as-begun}

@@ -6,7 +6,7 @@ use lib.IntN.{ℤ}
 use mir.Val.{toZ, ofZ, SFits}
 use mir.Syntax.{w64}
 use Rattle.signed.specs.Zed.{up, back}
-use Rattle.air.specs.Refusals.{Told, _when_, first, gives}
+use Rattle.refusal.specs.Refusals.{Told, _when_, first, gives}
 use Rattle.walk.specs.Work.{wrongCount, paperAtoms}
 use Rattle.walk.proofs.Asking.{line-held, line-clear, wrong-carbon, wrong-hydrogen, right-atoms, new-gas}
 use Rattle.walk.proofs.stepping.grow.Statement.{statement}

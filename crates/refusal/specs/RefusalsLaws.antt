@@ -1,24 +1,17 @@
 -- Demand 1, over any order of refusals (`demand-1`): a call tells refusal n exactly when n's condition holds and none before it does, and gives its values
 -- exactly when no condition holds. Every entry's promise is an equation with `first`; `demand-1-NAME` in its crate's Demand1Laws.antt is this law for the entry NAME. Assumes nothing.
 use mathlib.Core.Path.{_≡_, refl, sym, ap, _∙_}
-use mathlib.Core.Bool.{Bool, true, false, _||_}
 use mathlib.Core.List.{List, [], _∷_}
 use mathlib.Core.Logic.{_⊎_, inl, inr, ⊎-elim}
 use Prim.Native.Nat.{ℕ}
 use native.Mathlib.Omega.{arith}
-use Rattle.air.specs.declared.Refusal.{Refusal}
-use Rattle.air.specs.declared.Refusal.the-variants.{Plain, AtRow}
-use Rattle.air.specs.Refusals.{Told, gives, refused, Line, _when_, _on-row_when_, toldBy, condition, first, First, here, after, Clear, none, clear, Demand1}
+use Rattle.refusal.specs.declared.Refusal.{Refusal}
+use Rattle.refusal.specs.Refusals.{Told, gives, refused, Line, toldBy, condition, first, First, here, after, Clear, none, clear, Demand1}
+use Rattle.refusal.specs.BoolLaws.{by-bool}
 
--- by the two values of a test
-pub by-bool {ℓ} : {X : Type ℓ} (b : Bool) → (b ≡ true → X) → (b ≡ false → X) → X
-by-bool true f g = f refl
-by-bool false f g = g refl
-
--- a test of two that fails: both fail
-pub neither : (a b : Bool) → a || b ≡ false → (a ≡ false) × (b ≡ false)
-neither true b e = absurd (let z : _≡_ {A = ℕ} 0 1 = cc in omega arith)
-neither false b e = (refl, e)
+-- the values are no refusal
+pub no-refusal : {A : Type 0} (a : A) (r : Refusal) → gives a ≡ refused r → ⊥
+no-refusal a r h = let z : _≡_ {A = ℕ} 0 1 = cc in omega arith
 
 -- an order has a first line whose condition holds, or none
 pub first-or-clear : (ls : List Line) → ((l : Line) × First ls l) ⊎ Clear ls
@@ -46,25 +39,18 @@ module _ {A : Type 0} (a : A) where
 
 -- where the values are given, no condition holds, and they are the call's own
 pub gives-clear : {A : Type 0} (ls : List Line) {a b : A} → first ls a ≡ gives b → Clear ls × (a ≡ b)
-gives-clear ls {a} {b} e = ⊎-elim (λ w. absurd (no-values (w .0) b (w .2))) (λ w. (w .0, let h : gives a ≡ gives b = w .1 in cc)) (told-exactly a ls (gives b) e)
-  where
-    no-values : {A : Type 0} (l : Line) (b : A) → toldBy l ≡ gives b → ⊥
-    no-values (n when c) b h = let z : _≡_ {A = ℕ} 0 1 = cc in omega arith
-    no-values (n on-row r when c) b h = let z : _≡_ {A = ℕ} 0 1 = cc in omega arith
+gives-clear ls {a} {b} e =
+    ⊎-elim (λ w. absurd (no-refusal b _ (sym (w .2)))) (λ w. (w .0, let h : gives a ≡ gives b = w .1 in cc)) (told-exactly a ls (gives b) e)
 
 -- demand 1, both ways, of whatever is told by an order
 pub demand-1 : {A : Type 0} (order : List Line) (values : A) {told : Told A} → told ≡ first order values → Demand1 order values told
-demand-1 {A} order values {told} e = record {
+demand-1 order values e = record {
   refusal = λ r. (
-    λ h. ⊎-elim (λ w. w) (λ w. absurd (no-refusal r (w .1))) (told-exactly values order (refused r) (sym e ∙ h)),
+    λ h. ⊎-elim (λ w. w) (λ w. absurd (no-refusal values r (w .1))) (told-exactly values order (refused r) (sym e ∙ h)),
     λ w. e ∙ refusal-given values (w .1) ∙ w .2,
   );
   answer = λ a. (λ h. gives-clear order (sym e ∙ h), λ w. e ∙ values-given values (w .0) ∙ ap gives (w .1));
 }
-  where
-    no-refusal : (r : Refusal) → gives values ≡ refused r → ⊥
-    no-refusal (Plain n) h = let z : _≡_ {A = ℕ} 0 1 = cc in omega arith
-    no-refusal (AtRow n i) h = let z : _≡_ {A = ℕ} 0 1 = cc in omega arith
 
 -- an answer whose telling can be read back is the only one that tells the same
 pub one-told : {A R : Type 0} (paper : R → Told A) (back : Told A → R) → ((r : R) → back (paper r) ≡ r) → {t : Told A} (r s : R) → paper r ≡ t → paper s ≡ t → r ≡ s

@@ -2,23 +2,15 @@
 -- nothing.
 use mathlib.Core.Path.{_≡_, refl, sym, ap, _∙_}
 use mathlib.Core.List.{List, [], _∷_, _++_}
-use Rattle.air.specs.declared.Refusal.{Refusal}
-use Rattle.air.specs.declared.Refusal.the-variants.{Plain, AtRow}
-use Rattle.air.specs.Refusals.{Told, gives, refused, Line, _when_, _on-row_when_, toldBy, condition, first, andThen, Clear, none, clear}
-use Rattle.air.specs.RefusalsLaws.{by-bool, values-given, gives-clear}
-
-line-stays : (A : Type 0) {B : Type 0} (l : Line) (f : A → Told B) → toldBy l ≡ andThen (toldBy {A = A} l) f
-line-stays A (n when c) f = refl
-line-stays A (n on-row r when c) f = refl
-
-refused-stays : (A : Type 0) {B : Type 0} (r : Refusal) (f : A → Told B) → andThen (refused {A = A} r) f ≡ refused r
-refused-stays A (Plain n) f = refl
-refused-stays A (AtRow n r) f = refl
+use Rattle.refusal.specs.declared.Refusal.{Refusal}
+use Rattle.refusal.specs.Refusals.{Told, gives, refused, Line, condition, first, andThen, Clear, none, clear}
+use Rattle.refusal.specs.BoolLaws.{by-bool}
+use Rattle.refusal.specs.RefusalsLaws.{values-given, gives-clear}
 
 -- an order in two parts, the second over the values of the first
 pub one-order : {A B : Type 0} (ls : List Line) (a : A) (f : A → Told B) (ms : List Line) (b : B) → f a ≡ first ms b → first (ls ++ ms) b ≡ andThen (first ls a) f
 one-order [] a f ms b e = sym e
-one-order {A} (l ∷ ls) a f ms b e = by-bool (condition l) (λ h. rw h (line-stays A l f)) (λ h. rw h (one-order ls a f ms b e))
+one-order (l ∷ ls) a f ms b e = by-bool (condition l) (λ h. rw h refl) (λ h. rw h (one-order ls a f ms b e))
 
 pub in-parts : {A B : Type 0} (ls ms : List Line) (a : A) (b : B) → first (ls ++ ms) b ≡ andThen (first ls a) (λ x. first ms b)
 in-parts ls ms a b = one-order ls a (λ x. first ms b) ms b refl
@@ -26,7 +18,7 @@ in-parts ls ms a b = one-order ls a (λ x. first ms b) ms b refl
 module _ {A B : Type 0} (ls ms : List Line) (a : A) (b : B) where
   -- a refusal of the first part is the answer
   pub stopped : (r : Refusal) → refused r ≡ first ls a → refused r ≡ first (ls ++ ms) b
-  stopped r e = sym (in-parts ls ms a b ∙ ap (λ (t : Told A). andThen t (λ x. first ms b)) (sym e) ∙ refused-stays A r (λ x. first ms b))
+  stopped r e = sym (in-parts ls ms a b ∙ ap (λ (t : Told A). andThen t (λ x. first ms b)) (sym e))
 
   -- and where it gives its values, the second part decides
   pub passed : {x : A} → gives x ≡ first ls a → first (ls ++ ms) b ≡ first ms b

@@ -5,39 +5,47 @@ use mathlib.Core.List.{List, [], _∷_}
 use mathlib.Core.Logic.{_↔_}
 use mathlib.Core.Path.{_≡_}
 use Prim.Native.Nat.{ℕ}
-use Rattle.air.specs.declared.Refusal.{Refusal}
-use Rattle.air.specs.declared.Refusal.the-variants.{Plain, AtRow}
+use Rattle.refusal.specs.declared.Refusal.{Refusal}
+use Rattle.refusal.specs.declared.Refusal.the-variants.{Plain, At}
 
--- the values of an answer, or a refusal's number and, for 2 and 3, its row
+-- the values of an answer, or a refusal
 pub data Told (A : Type 0) : Type 0 where
   gives : A → Told A
-  refuses : ℕ → Told A
-  refusesRow : ℕ → ℕ → Told A
+  refused : Refusal → Told A
 
--- a refusal as the paper numbers it
-abbrev pub refused : {A : Type 0} → Refusal → Told A
-refused (Plain number) = refuses number
-refused (AtRow number row) = refusesRow number row
+-- a refusal as the paper numbers it, and one with its place: for 2 and 3 the row
+abbrev pub refuses : {A : Type 0} → ℕ → Told A
+refuses n = refused (Plain n)
+
+abbrev pub refusesAt : {A : Type 0} → ℕ → ℕ → Told A
+refusesAt n k = refused (At n k)
+
+-- the number of a refusal
+abbrev pub numberOf : Refusal → ℕ
+numberOf (Plain n) = n
+numberOf (At n k) = n
 
 -- a line of an order: a refusal when its condition holds
 infix 70 _when_
-infix 70 _on-row_when_
+infix 70 _at-place_when_
 pub data Line : Type 0 where
   _when_ : ℕ → Bool → Line
-  _on-row_when_ : ℕ → ℕ → Bool → Line
+  _at-place_when_ : ℕ → ℕ → Bool → Line
 
--- the refusal of a line, its number, and its condition
+-- the refusal of a line, what a call tells by it, its number, and its condition
+abbrev pub refusalOf : Line → Refusal
+refusalOf (n when c) = Plain n
+refusalOf (n at-place k when c) = At n k
+
 abbrev pub toldBy : {A : Type 0} → Line → Told A
-toldBy (n when c) = refuses n
-toldBy (n on-row r when c) = refusesRow n r
+toldBy l = refused (refusalOf l)
 
 abbrev pub lineNumber : Line → ℕ
-lineNumber (n when c) = n
-lineNumber (n on-row r when c) = n
+lineNumber l = numberOf (refusalOf l)
 
 abbrev pub condition : Line → Bool
 condition (n when c) = c
-condition (n on-row r when c) = c
+condition (n at-place k when c) = c
 
 -- the first refusal in the order whose condition holds, else the values
 abbrev pub first : {A : Type 0} → List Line → A → Told A
@@ -47,8 +55,7 @@ first (l ∷ ls) a = cond (condition l) (toldBy l) (first ls a)
 -- what is told and, if it is no refusal, what is told of its values
 abbrev pub andThen : {A B : Type 0} → Told A → (A → Told B) → Told B
 andThen (gives a) f = f a
-andThen (refuses n) f = refuses n
-andThen (refusesRow n r) f = refusesRow n r
+andThen (refused r) f = refused r
 
 -- the line is the first of its order: its condition holds, and no condition before it does
 pub data First : List Line → Line → Type 0 where

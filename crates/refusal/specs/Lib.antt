@@ -1,0 +1,4 @@
+pub mod Refusals
+pub mod BoolLaws
+pub mod RefusalsLaws
+pub mod OrdersLaws
