@@ -28,7 +28,7 @@
  * STACK: a thread with 48 KB of stack can make every call, and one with 24 KB every call but gaskeys_read_sheet. Measured were 30 KB for gaskeys_read_sheet and at most
  * 14 KB for any other, the thread's own 4 KB among them; bindings/c/limits.c measures it again and passes NULL to every call.
  *
- * VERSION: GASKEYS_VERSION goes up whenever a list or a struct changes its meaning. The archive has the symbol gaskeys_version_2, named after the number, and every file
+ * VERSION: GASKEYS_VERSION goes up whenever a list or a struct changes its meaning. The archive has the symbol gaskeys_version_1, named after the number, and every file
  * that includes this header refers to it: what was compiled with the header of another version does not link.
  */
 #ifndef GASKEYS_H
@@ -43,10 +43,10 @@ extern "C" {
 
 /* ---- the version ---- */
 
-#define GASKEYS_VERSION 2
+#define GASKEYS_VERSION 1
 
 /* Gives 2. */
-uint32_t gaskeys_version_2(void);
+uint32_t gaskeys_version_1(void);
 
 /* The reference to it, kept also where nothing uses it. */
 #define GASKEYS_KEPT __attribute__((used))
@@ -56,7 +56,7 @@ uint32_t gaskeys_version_2(void);
 #define GASKEYS_KEPT __attribute__((used, retain))
 #endif
 #endif
-static uint32_t (*const gaskeys_linked_version)(void) GASKEYS_KEPT = gaskeys_version_2;
+static uint32_t (*const gaskeys_linked_version)(void) GASKEYS_KEPT = gaskeys_version_1;
 
 /* ---- refusals ---- */
 

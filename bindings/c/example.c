@@ -95,7 +95,7 @@ static void kerosene(void) {
 }
 
 int main(void) {
-    printf("version %d, and the archive's %" PRIu32 "\n", GASKEYS_VERSION, gaskeys_version_2());
+    printf("version %d, and the archive's %" PRIu32 "\n", GASKEYS_VERSION, gaskeys_version_1());
     read_text();
     walk();
     air();

@@ -122,5 +122,5 @@ fn a_refusal_has_0_in_every_other_field() {
 #[test]
 fn the_archive_has_the_wrappers_version() {
     // SAFETY: nothing is passed.
-    assert_eq!(unsafe { raw::gaskeys_version_2() }, raw::VERSION);
+    assert_eq!(unsafe { raw::gaskeys_version_1() }, raw::VERSION);
 }

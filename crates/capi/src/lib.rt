@@ -22,7 +22,7 @@ ghost use Rattle.capi.specs.Flat.{flatSheet, flatBurn, flatHeat, flatRea
 ghost use Rattle.capi.specs.Lent.{SheetIs, BuiltInIs, TemperatureIs, PsiIs, WalkIs};
 
 // up by one where a list or a struct changes its meaning
-const VERSION: u32 = 2;
+const VERSION: u32 = 1;
 
 // What the calls that read, judge or give a sheet tell.
 #[repr(C)]
@@ -119,8 +119,8 @@ pub struct MarkTold {
 
 // The version of these calls. The symbol has it in its name, so that what was compiled for another version does not link.
 #[no_mangle]
-pub extern "C" fn gaskeys_version_2() -> u32
-    ensures { λ r. ⌜ r ≡ 2 ⌝ }
+pub extern "C" fn gaskeys_version_1() -> u32
+    ensures { λ r. ⌜ r ≡ 1 ⌝ }
 {
     VERSION
 }

@@ -1,7 +1,7 @@
 // Which refusal a printed walk ends in: the page shows its number alone, and a line on standard error says whether it is the sheet's, the start's or a step's.
 use air::Millikelvin;
-use air::Refusal;
 use gas::Charge;
+use refusal::Refusal;
 use sheet::SheetAnswer;
 use walk::WalkAnswer;
 ghost use Prim.Native.Nat.{_≤_};
@@ -66,7 +66,7 @@ fn say_start(refusal: Refusal) {
     let next = text::put_text(b"the start is refused with ", &mut out, 0);
     match refusal {
         Refusal::Plain(number) => say_number(number, &mut out, next),
-        Refusal::AtRow(number, _) => say_number(number, &mut out, next),
+        Refusal::At(number, _) => say_number(number, &mut out, next),
     }
 }
 
@@ -76,7 +76,7 @@ fn say_sheet(refusal: Refusal) {
     let next = text::put_text(b"the sheet is refused with ", &mut out, 0);
     match refusal {
         Refusal::Plain(number) => say_number(number, &mut out, next),
-        Refusal::AtRow(number, row) => {
+        Refusal::At(number, row) => {
             let after = text::put_decimal(number as u64, &mut out, next);
             let at = text::put_text(b" at row ", &mut out, after);
             say_number(row, &mut out, at);

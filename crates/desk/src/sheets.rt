@@ -1,7 +1,7 @@
 // Sheet files: read, judged once, reported. A good sheet has at most 46,026 bytes, so a longer text has its first bad byte among the first 65,536, and no more are read.
 use crate::arguments;
 use crate::pages;
-use air::Refusal;
+use refusal::Refusal;
 use sheet::SheetAnswer;
 use stream::Got;
 ghost use Prim.Native.Nat.{_≤_};
@@ -77,7 +77,7 @@ pub(crate) fn say_return(verdict: SheetAnswer, bytes: &[u8]) {
     let SheetAnswer::Refused(refusal) = verdict else {
         return;
     };
-    let Refusal::AtRow(number, row) = refusal else {
+    let Refusal::At(number, row) = refusal else {
         return;
     };
     if number == 2 {
