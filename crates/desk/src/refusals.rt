@@ -64,10 +64,7 @@ fn say_step(step: u64, number: u32) {
 fn say_start(refusal: Refusal) {
     let mut out = [0u8; 64];
     let next = text::put_text(b"the start is refused with ", &mut out, 0);
-    match refusal {
-        Refusal::Plain(number) => say_number(number, &mut out, next),
-        Refusal::At(number, _) => say_number(number, &mut out, next),
-    }
+    say_number(refusal::number_of(refusal), &mut out, next);
 }
 
 // the sheet is refused with 3 at row 300
