@@ -1,5 +1,5 @@
--- No answer is longer than 8,192 bytes, whatever the line, the sheet list and the verdict on it, so none is cut where that much room is left: `answer-short`, `answer-whole`; and no printed walk longer than 4,096: `page-short`. A walk of 64 steps is the
--- longest: 100 bytes a step, and its course. Assumes nothing.
+-- No answer is longer than 8,192 bytes, for every line, every sheet list and every verdict whose refusal is brief (`Brief`), as all are that the judge or the reader gives, so none is cut where that much room is left: `answer-short`, `answer-whole`;
+-- and a walk over a sheet found good is no longer than 4,096 when printed: `page-short`. A walk of 64 steps is the longest: 100 bytes a step, and its course. Assumes nothing.
 use Prim.Native.Nat.{ℕ, zero, suc, _+_, _-_, _*_, _/_, _%_, _≤_, _<_}
 use mathlib.Core.Path.{_≡_, refl, sym, ap, subst}
 use mathlib.Core.Bool.{Bool, true, false, not, _&&_, cond}
