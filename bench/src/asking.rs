@@ -38,10 +38,10 @@ pub fn print_row(sheet: &[u32]) {
     println!("| {name} | random | {plain:.1} | {proved:.1} | {ratio:.2} |");
 }
 
-/// target/bin/keys or target/bin/keys_ask, which is the same program.
+/// target/bin/keys, if it is built.
 fn program() -> Option<PathBuf> {
-    let bin = Path::new(env!("CARGO_MANIFEST_DIR")).join("../target/bin");
-    ["keys", "keys_ask"].map(|name| bin.join(name)).into_iter().find(|path| path.is_file())
+    let keys = Path::new(env!("CARGO_MANIFEST_DIR")).join("../target/bin/keys");
+    keys.is_file().then_some(keys)
 }
 
 /// The nanoseconds of a run on the requests, and what it wrote.

@@ -1,8 +1,8 @@
 //! The gas keys a second time, from document 01 alone and for reading beside it.
 //!
 //! It shares nothing with the proved crates but the scanned figures. Numbers are as wide as they
-//! need to be; temperatures are found by their definition. It makes the trials' standard
-//! input and the output that the proved programs have to give.
+//! need to be; temperatures are found by their definition. It makes what the proved programs are
+//! asked, and what they have to answer.
 
 pub mod air;
 pub mod answer;
@@ -10,8 +10,10 @@ pub mod dice;
 pub mod gas;
 pub mod inverse;
 pub mod marking;
+pub mod program;
 pub mod refusal;
 pub mod sheet;
+pub mod stored;
 pub mod table;
 pub mod trials;
 pub mod walk;

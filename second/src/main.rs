@@ -1,12 +1,12 @@
-//! `second make DIR` writes the trials' files, and the output of the program crates, under DIR; `second check DIR` says whether
-//! they are what it makes.
+//! `second make DIR` writes the stored files under DIR; `second check DIR` says whether they are what it makes; `second runs SEED
+//! DIR` writes the runs that are made from a seed, each into a folder of its own.
 
 use std::path::Path;
 use std::process::ExitCode;
 use std::{env, fs, io};
 
-use second::trials::files;
-use second::trials::program::outputs;
+use second::stored::files;
+use second::trials::runs::runs;
 
 fn main() -> ExitCode {
     let arguments: Vec<String> = env::args().skip(1).collect();
@@ -14,7 +14,8 @@ fn main() -> ExitCode {
     let done = match words[..] {
         ["make", dir] => make(Path::new(dir)),
         ["check", dir] => check(Path::new(dir)),
-        _ => Err("second make DIR, or second check DIR".to_string()),
+        ["runs", seed, dir] => make_runs(seed, Path::new(dir)),
+        _ => Err("second make DIR, second check DIR, or second runs SEED DIR".to_string()),
     };
     match done {
         Ok(()) => ExitCode::SUCCESS,
@@ -25,13 +26,8 @@ fn main() -> ExitCode {
     }
 }
 
-/// All files, those of the program crates from the input that they have stored.
-fn all(dir: &Path) -> Result<Vec<(String, String)>, String> {
-    Ok([files(), outputs(dir)?].concat())
-}
-
 fn make(dir: &Path) -> Result<(), String> {
-    for (path, text) in all(dir)? {
+    for (path, text) in files(dir)? {
         write(&dir.join(&path), &text).map_err(|error| format!("{path}: {error}"))?;
     }
     Ok(())
@@ -44,12 +40,20 @@ fn write(path: &Path, text: &str) -> io::Result<()> {
 
 /// Names the first stored file that is not what is made now.
 fn check(dir: &Path) -> Result<(), String> {
-    for (path, text) in all(dir)? {
+    for (path, text) in files(dir)? {
         match fs::read(dir.join(&path)) {
             Ok(stored) if stored == text.as_bytes() => {}
             Ok(_) => return Err(format!("{path} is not what second makes")),
             Err(error) => return Err(format!("{path}: {error}")),
         }
+    }
+    Ok(())
+}
+
+fn make_runs(seed: &str, dir: &Path) -> Result<(), String> {
+    let seed = seed.parse().map_err(|error| format!("{seed}: {error}"))?;
+    for (name, run) in runs(seed) {
+        run.save(&dir.join(&name)).map_err(|error| format!("{name}: {error}"))?;
     }
     Ok(())
 }

@@ -1,65 +1,94 @@
-//! The trials' files: how large they may be, and what must be among them.
+//! What is asked: what must be stored, what must be among the runs of a seed, and how many they are.
 
+use std::collections::BTreeSet;
 use std::sync::OnceLock;
 
-use second::trials::desk::Desk;
-use second::trials::files;
+use second::dice::Dice;
+use second::program::{Run, Written};
+use second::stored::trial_ask;
+use second::trials::runs::runs;
+use second::trials::sheets::{each_list, each_text};
 
-/// The files of all trials, made once.
-fn all() -> &'static [(String, String)] {
-    static FILES: OnceLock<Vec<(String, String)>> = OnceLock::new();
-    FILES.get_or_init(|| files())
+/// The runs of a seed, each with what it has to write, made once.
+fn made() -> &'static [(Run, Written)] {
+    static RUNS: OnceLock<Vec<(Run, Written)>> = OnceLock::new();
+    let written = |(_, run): (String, Run)| {
+        let written = run.written();
+        (run, written)
+    };
+    RUNS.get_or_init(|| runs(1).into_iter().map(written).collect())
+}
+
+/// The numbers that a field of the lines with that word has.
+fn numbers<'a>(lines: impl Iterator<Item = &'a str>, word: &str, place: usize) -> Vec<u32> {
+    let fields = lines.map(|line| line.split('\t').collect::<Vec<&str>>());
+    let told = fields.filter(|fields| fields[0] == word);
+    let numbers: BTreeSet<u32> = told.map(|fields| fields[place].parse().unwrap()).collect();
+    numbers.into_iter().collect()
 }
 
 #[test]
-fn the_files_are_small_and_whole() {
-    let size = |name: &str| -> usize {
-        all().iter().filter(|(path, _)| path.contains(name)).map(|(_, text)| text.len()).sum()
-    };
-    assert!(size("trial_rows") < 300_000);
-    assert!(size("trial_limits") < 30_000);
-    assert!(size("trial_sheets") < 1_000_000);
-    assert!(["trial_gas", "trial_walks", "trial_marks"].iter().all(|name| size(name) < 600_000));
-    assert!(size("") < 2_500_000);
-    for pair in all().chunks(2) {
-        let lines = |text: &str| text.matches('\n').count();
-        assert_eq!(lines(&pair[0].1), lines(&pair[1].1), "{}", pair[0].0);
-        assert!(pair[0].1.lines().all(|line| line.len() < 8192));
+fn every_row_and_refusal_is_stored() {
+    let [(_, requests), (_, answers)] = &trial_ask()[..] else { panic!("stdin and stdout") };
+    assert!(requests.len() < 130_000 && answers.len() < 100_000);
+    assert_eq!(requests.lines().count(), answers.lines().count());
+    for kelvin in 200..=2000 {
+        for asked in [format!("air-heat\t{kelvin}000"), format!("air-psi\t{kelvin}000")] {
+            assert!(requests.lines().any(|line| line == asked), "{asked}");
+        }
+        assert!(requests.lines().any(|line| line == format!("air-cp\t{kelvin}")), "{kelvin}");
+    }
+    assert_eq!(numbers(answers.lines(), "refused", 1), [4, 5, 6, 8, 9, 11, 12, 13]);
+    assert_eq!(numbers(answers.lines(), "stopped", 2), [4, 5, 7, 8, 9]);
+}
+
+#[test]
+fn a_seed_asks_many_of_each() {
+    let of = |form| made().iter().filter(move |(run, _)| run.words[0] == form);
+    let least = [
+        ("air-heat", 10_000),
+        ("air-psi", 10_000),
+        ("air-temperature", 105_000),
+        ("burn", 900),
+        ("gas-heat", 5_000),
+        ("content", 5_000),
+        ("specific-content", 5_000),
+        ("station", 5_000),
+        ("temperature", 30_000),
+        ("walk", 6_000),
+        ("mark", 140_000),
+    ];
+    for (word, least) in least {
+        let lines = of("ask").flat_map(|(run, _)| run.input.lines());
+        let asked = lines.filter(|line| line.split('\t').next() == Some(word)).count();
+        assert!(asked >= least, "{word} {asked}");
+    }
+    assert!(of("walk").count() >= 300 && of("sheet").count() >= 300);
+}
+
+#[test]
+fn a_seed_meets_every_refusal_of_the_program() {
+    let written = || made().iter().map(|(_, written)| written);
+    let lines = || written().flat_map(|written| written.output.lines());
+    assert_eq!(numbers(lines(), "refused", 1), [2, 3, 4, 5, 6, 7, 8, 9, 11, 12, 13]);
+    assert_eq!(numbers(lines(), "stopped", 2), [4, 5, 7, 8, 9]);
+    assert!(written().all(|written| !written.output.contains("error")));
+    for said in ["the sheet is", "the start is", "step 1 is", "step 2 is", "a carriage return"] {
+        assert!(written().any(|written| written.error.contains(said)), "{said}");
     }
 }
 
 #[test]
-fn every_refusal_is_among_the_answers() {
-    let lines = || all().iter().flat_map(|(_, text)| text.lines());
-    let given = |word: &str, place: usize, number: u32| {
-        let number = number.to_string();
-        let is_it = |line: &&str| {
-            let fields: Vec<&str> = line.split('\t').collect();
-            fields[0] == word && fields[place] == number
-        };
-        lines().filter(is_it).count()
-    };
-    assert!([1, 2, 3, 4, 5, 6, 8, 9, 10, 11, 12, 13].iter().all(|n| given("refused", 1, *n) > 0));
-    assert!([4, 5, 7, 8, 9].iter().all(|number| given("stopped", 2, *number) > 20));
+fn a_seed_is_always_the_same_and_no_other() {
+    let inputs = |seed| runs(seed).into_iter().map(|(name, run)| (name, run.input, run.files));
+    assert!(inputs(1).eq(inputs(1)));
+    assert!(inputs(1).ne(inputs(2)));
 }
 
 #[test]
-fn further_forms() {
-    let mut desk = Desk::open();
-    let mut reply = |line: &str| desk.reply(&line.replace(' ', "\t")).replace('\t', " ");
-    assert_eq!(reply("air-row 2000"), "ok 2986 53789000 -6 -6 -6 133151000 -6 -6 -6");
-    // One place of pattern, 7,000,000; two, 31·7,000,000 + 7,000,001.
-    assert_eq!(reply("air-temperature-into 1 0"), "refused 10 7000000");
-    assert_eq!(reply("air-temperature-into 2 0"), "refused 10 224000001");
-    assert_eq!(reply("text 3 2 0 0"), "refused 1 224000001");
-    assert_eq!(reply("air-temperatures 95263999 1 1"), "ok 0 1 8");
-    assert_eq!(reply("air-temperatures 95263999 37887002 2"), "ok 0 2 257");
-    assert_eq!(reply("walk-into 0 1 2 1 0 0 300000"), "ok 0 1 0 0 300000 0 7000000 224000001");
-    assert_eq!(reply("sheet 1 5403 4 1800 200000"), "ok");
-    assert_eq!(reply("gas-heat 3 1 0 200000"), "ok 1432800000000");
-    assert_eq!(reply("gas-heat 3 1 0 201000"), "ok 10242200000000");
-    let [mk, mass] = [0x4111_9680_0000_0000_u64, 0x4113_4a2c_0000_0000];
-    assert_eq!(reply("figures 3 1 4 288160"), format!("ok {mk} 0 {mass}"));
-    assert_eq!(reply("grid 0 0 0 1 -1 3 0"), "ok 1 2 0 31");
-    assert_eq!(reply(&format!("grid 1 {} 0 2 0 1 0", 0x7ff0_0000)), "ok 0 0 2 352");
+fn sheets_are_many() {
+    let (mut texts, mut lists) = (0, 0);
+    each_text(&mut Dice::new(1), &mut |_| texts += 1);
+    each_list(&mut Dice::new(1), &mut |_| lists += 1);
+    assert!(texts > 7_500 && lists > 4_900, "{texts} {lists}");
 }

@@ -2,8 +2,13 @@
 
 use second::dice::Dice;
 use second::sheet::{self, PLACES};
+use second::trials::sheets::{damage, each_list, each_text};
 use trial::lent::Lent;
 use trial::{first, other, sheets};
+
+/// Lengths of lent lists at and beside those that matter.
+const LENGTHS: [usize; 10] =
+    [PLACES, 0, 1, 3, PLACES - 3, PLACES - 1, PLACES + 1, PLACES + 3, 6000, 2 * PLACES];
 
 /// The text and a list of that length, read by both.
 fn same_reading(text: &[u8], length: usize) {
@@ -33,8 +38,10 @@ fn texts_are_read_alike() {
     let mut dice = Dice::new(901);
     for list in sheets::accepted(&mut dice) {
         let text = sheet::text(&list).into_bytes();
-        for length in [PLACES, 0, 1, PLACES - 1, PLACES + 1, 2 * PLACES] {
+        for length in LENGTHS {
             same_reading(&text, length);
+            same_reading(&damaged(&mut dice, &text), length);
+            same_reading(b"", length);
         }
         for _ in 0..150 {
             same_reading(&damaged(&mut dice, &text), PLACES);
@@ -46,12 +53,28 @@ fn texts_are_read_alike() {
 }
 
 #[test]
+fn damaged_texts_are_read_alike() {
+    let (mut good, mut bad) = (0, 0);
+    each_text(&mut Dice::new(904), &mut |text| {
+        same_reading(text, PLACES);
+        *(if sheet::first_bad_row(text).is_none() { &mut good } else { &mut bad }) += 1;
+    });
+    assert!(good > 500 && bad > 6_000, "{good} {bad}");
+}
+
+#[test]
 fn a_reader_judges_the_form_alone() {
     let mut dice = Dice::new(902);
     for _ in 0..200 {
         let list: Vec<u32> = (0..PLACES).map(|_| dice.below(200_002) as u32).collect();
         same_reading(sheet::text(&list).as_bytes(), PLACES);
     }
+}
+
+fn same_verdict(list: &[u32]) -> bool {
+    let answer = first(gaskeys::judge_sheet(list));
+    assert_eq!(answer, other(sheet::judge(list)));
+    answer.is_ok()
 }
 
 #[test]
@@ -61,11 +84,18 @@ fn lists_are_judged_alike() {
     for _ in 0..5_000 {
         let mut list = sheets::drawn(&mut dice, &good);
         if !list.is_empty() {
-            sheets::damage(&mut dice, &mut list);
+            damage(&mut dice, &mut list);
         }
-        assert_eq!(first(gaskeys::judge_sheet(&list)), other(sheet::judge(&list)));
+        same_verdict(&list);
     }
-    for list in good {
-        assert_eq!(first(gaskeys::judge_sheet(&list)), Ok(()));
-    }
+    assert!(good.iter().all(|list| same_verdict(list)));
+}
+
+#[test]
+fn the_step_rule_is_kept_alike_in_every_row() {
+    let (mut good, mut bad) = (0, 0);
+    each_list(&mut Dice::new(905), &mut |list| {
+        *(if same_verdict(list) { &mut good } else { &mut bad }) += 1;
+    });
+    assert!(good > 1_800 && bad > 1_800 && good + bad > 4_600, "{good} {bad}");
 }

@@ -171,7 +171,7 @@ pub fn put_decimal(n: u64, buf: &mut [u8], at: usize) -> usize
 }
 
 // The number without its sign.
-pub fn size(z: i64) -> u64
+fn size(z: i64) -> u64
     ensures { λ r. ⌜ r ≡ natAbs z ⌝ }
 {
     if z >= 0 {

@@ -1,4 +1,4 @@
-// Every request of `keys ask` over the built-in sheet, by the program: stdin and stdout are what the second implementation makes.
+// `keys ask`: every row of Table 1, both sides of every limit and every request over the built-in sheet. stdin and stdout are what the second implementation makes.
 fn main() {
     desk::run();
 }

@@ -246,7 +246,7 @@ fn nan_bits(bits: u64) -> bool
 }
 
 // The float of a bit pattern; each NaN pattern is the NaN.
-pub fn of_bits(bits: u64) -> f64
+fn of_bits(bits: u64) -> f64
     ensures { λ r. ⌜ r ≡ ofBits binary64 bits ⌝ }
 {
     if nan_bits(bits) {

@@ -1,16 +1,20 @@
-//! `trial_ask`: every request of `keys ask` over the built-in sheet; typed answers as decimals.
+//! `trial_ask`: every row of Table 1, both sides of every limit, and every request of `keys ask` over the built-in sheet, with typed
+//! answers as decimals.
 
 use crate::answer::fields;
 use crate::dice::Dice;
 use crate::gas::{Charge, Gases};
-use crate::trials::gas::{gases, lean_charge, SHEETS};
+use crate::sheet;
+use crate::trials::gas::lean_charge;
 use crate::trials::walks::random_step;
+use crate::trials::{limits, rows};
 use crate::walk::State;
 
 pub fn requests() -> Vec<String> {
     let mut dice = Dice::new(0xa5cc);
-    let gases = gases(SHEETS[0]);
-    let mut requests = vec![fields("mark\tblank", &[0, 0])];
+    let gases = Gases::of(&sheet::built_in()).expect("the built-in sheet is accepted");
+    let mut requests = [rows::every_row(), rows::edges(), limits::requests()].concat();
+    requests.push(fields("mark\tblank", &[0, 0]));
     for _ in 0..60 {
         requests.extend(of_air(&mut dice));
         requests.extend(of_a_charge(&mut dice, &gases));
@@ -43,7 +47,7 @@ fn of_a_charge(dice: &mut Dice, gases: &Gases) -> Vec<String> {
 }
 
 /// A decimal typed at the edge of its window, or a little beside it, with more digits than the key.
-fn decimal_mark(dice: &mut Dice) -> String {
+pub fn decimal_mark(dice: &mut Dice) -> String {
     let (kind, decimals) = dice.one_of(&[("kelvins", 3), ("content", 5)]);
     let key = dice.from_to(-1_000_000_000, 1_000_000_000) >> dice.below(30);
     let window = dice.from_to(0, 100_000) >> dice.below(18);

@@ -1,13 +1,14 @@
-//! `trial_limits`: both sides of every limit of document 01, and its examples P1 to P10.
+//! Both sides of every limit of document 01 that a request of `keys ask` over the built-in sheet can meet, and the examples P1 to
+//! P10. The limits of sheets are in `sheets`, those of lent lists in the tests of the calls for C.
 
 /// A line for each side; a line's words are parted here by spaces.
 pub fn requests() -> Vec<String> {
     let lines = |text: &str| text.lines().map(str::to_string).collect();
-    let all: [Vec<String>; 5] = [lines(AIR), lines(SHEET), lines(GAS), walks(), lines(MARKING)];
+    let all: [Vec<String>; 4] = [lines(AIR), lines(GAS), walks(), lines(MARKING)];
     all.concat().iter().map(|line| line.trim().replace(' ', "\t")).collect()
 }
 
-/// P1 to P3; 200,000 to 2,000,000 mK; 200 to 2,000 K; ψ at its ends; eleven places.
+/// P1 to P3; 200,000 to 2,000,000 mK; 200 to 2,000 K; ψ at its ends.
 const AIR: &str = "\
 air-heat 200000
 air-heat 200500
@@ -26,32 +27,9 @@ air-cp 2001
 air-temperature 95263999
 air-temperature 95264000
 air-temperature 133151000
-air-temperature 133151001
-air-temperature-into 10 95264000
-air-temperature-into 11 95264000";
+air-temperature 133151001";
 
-/// 5,403 places; 0 to 200,000; O2 rises by four times the rise of air; no gas falls; 1,801 lines.
-const SHEET: &str = "\
-list 1 5402
-list 1 5403
-list 1 5404
-list 1 5403 2 1801 200000
-list 1 5403 2 1801 200001
-list 1 5403 3 1800 96
-list 1 5403 3 1800 97
-list 2 5403 5402 1 200000
-list 2 5403 5402 1 199999
-text 0 5402 0 0
-text 0 5403 0 0
-text 0 5404 0 0
-text 3 5403 0 0
-text 1 5403 4 1 50 48 48 48 48 48
-text 1 5403 4 1 50 48 48 48 48 49
-text 1 5403 19000 11
-text 1 5403 19010 1
-text 1 5403 19011 0 10";
-
-/// P4 to P10; A, c and h; lean; range; a target at and beside the heat at both ends; places.
+/// P4 to P10; A, c and h; lean; range; a target at and beside the heat at both ends.
 const GAS: &str = "\
 burn 3 1 4
 burn 2 1 4
@@ -90,20 +68,14 @@ temperature 1 0 0 477599999999
 temperature 1 0 0 477600000000
 temperature 1 0 0 5378899999999
 temperature 1 0 0 5378900000000
-temperature 1 0 0 5378900000001
-temperature-into 10 1 0 0 478800000000
-temperature-into 11 1 0 0 478800000000
-temperature-into 12 1 0 0 478800000000";
+temperature 1 0 0 5378900000001";
 
-/// The printed walk; 64 and 65 steps, in fours; places; start; atoms, calorific value and q.
+/// The printed walk; 64 and 65 steps, in fours; start; atoms, calorific value and q.
 fn walks() -> Vec<String> {
     let still = |numbers: usize| "0 ".repeat(numbers);
     let mut lines: Vec<String> = WALK.lines().map(str::to_string).collect();
     for numbers in [252, 255, 256, 257, 260] {
         lines.push(format!("walk 1 0 0 300000 {}", still(numbers)));
-    }
-    for [t, r, l] in [[64, 64, 704], [63, 64, 704], [64, 63, 704], [64, 64, 703], [65, 65, 715]] {
-        lines.push(format!("walk-into {t} {r} {l} 1 0 0 300000 {}", still(256)));
     }
     lines
 }

@@ -1,17 +1,16 @@
-//! `trial_marks`: typed answers at and beside every kind of edge, station figures, differences.
+//! Typed answers at and beside every kind of edge.
 
 use crate::answer::fields;
 use crate::dice::Dice;
-use crate::trials::gas::{lean_charge, REFUSED, SHEETS};
+use crate::trials::ask::decimal_mark;
 use crate::trials::EXTREMES;
 
 const FARTHEST: i64 = 1_000_000_000_000;
 const WIDEST: i64 = 100_000;
 
-pub fn requests() -> Vec<String> {
-    let mut dice = Dice::new(0x3a5c);
-    [chosen(), ranges(), edges(&mut dice), powers(), random(&mut dice), stations(&mut dice)]
-        .concat()
+pub fn requests(dice: &mut Dice) -> Vec<String> {
+    let decimals = (0..2000).map(|_| decimal_mark(dice)).collect();
+    [chosen(), ranges(), decimals, edges(dice), powers(), random(dice)].concat()
 }
 
 fn mark(kind: &str, x: f64, key: i64, window: i64) -> String {
@@ -23,15 +22,18 @@ fn hexadecimal(x: f64) -> String {
     format!("x{:016x}", x.to_bits())
 }
 
-/// Marks of some floats from x up and some keys from one up; x in two halves of its bits.
-fn grid(kind: &str, x: f64, floats: i64, key: i64, keys: i64, window: i64) -> String {
-    let [high, low] = [x.to_bits() >> 32, x.to_bits() & 0xffff_ffff].map(|half| half as i64);
-    let kind = if kind == "kelvins" { 0 } else { 1 };
-    fields("grid", &[kind, high, low, floats, key, keys, window])
+/// Marks of some floats from x up, each with some keys from one up.
+fn grid(kind: &str, x: f64, floats: u64, key: i64, keys: i64, window: i64) -> Vec<String> {
+    let mut requests = Vec::new();
+    for up in 0..floats {
+        let x = f64::from_bits(x.to_bits() + up);
+        requests.extend((key..key + keys).map(|key| mark(kind, x, key, window)));
+    }
+    requests
 }
 
 /// Five floats about x and nine keys about a key: every one of them is an edge's neighbour.
-fn about(kind: &str, x: f64, key: i64, window: i64) -> String {
+fn about(kind: &str, x: f64, key: i64, window: i64) -> Vec<String> {
     let (sign, size) = (x.to_bits() >> 63 << 63, x.to_bits() << 1 >> 1);
     grid(kind, f64::from_bits(sign | size.saturating_sub(2)), 5, key - 4, 9, window)
 }
@@ -95,7 +97,7 @@ fn edges(dice: &mut Dice) -> Vec<String> {
         let edge = dice.one_of(&[key - window, key + window]);
         about(kind, edge as f64 / scale, key, window)
     };
-    (0..2000).map(&mut request).collect()
+    (0..2200).flat_map(&mut request).collect()
 }
 
 /// Floats about powers of two, where floats lie closer below than above, with the whole key
@@ -107,7 +109,8 @@ fn powers() -> Vec<String> {
     for x in patterns.map(f64::from_bits) {
         for (kind, scale) in [("kelvins", 1000.0), ("content", 100_000.0)] {
             let key = (scale * x).min(1e12) as i64;
-            requests.extend([about(kind, x, key, 0), about(kind, -x, -key, 1)]);
+            requests.extend(about(kind, x, key, 0));
+            requests.extend(about(kind, -x, -key, 1));
         }
     }
     requests
@@ -128,32 +131,5 @@ fn random(dice: &mut Dice) -> Vec<String> {
         let key = (key + off).clamp(-FARTHEST, FARTHEST - 4);
         grid(kind, x, 10, key, 5, window)
     };
-    (0..400).map(&mut request).collect()
-}
-
-/// Station figures and differences in their bits.
-fn stations(dice: &mut Dice) -> Vec<String> {
-    let mut requests = Vec::new();
-    for sheet in SHEETS {
-        requests.push(fields("sheet", sheet));
-        for _ in 0..12 {
-            let mut station = || {
-                let [a, c, h] = lean_charge(dice);
-                let random = dice.from_to(200_000, 2_000_000);
-                [a, c, h, dice.one_of(&[random, random, random, 200_000, 288_160, 2_000_000])]
-            };
-            let (one, other) = (station(), station());
-            requests.push(fields("figures", &one));
-            requests.push(fields("station", &one));
-            requests.push(fields("differences", &[one, other].concat()));
-            requests.push(fields("differences", &[one, one].concat()));
-        }
-    }
-    for sheet in REFUSED.iter().chain(&SHEETS[..1]) {
-        requests.push(fields("sheet", sheet));
-        for [a, c, h, mk] in [[3, 1, 4, 300_000], [3, 1, 4, 0], [1, 1, 0, 0], [0, 1, 0, 0]] {
-            requests.push(fields("station", &[a, c, h, mk]));
-        }
-    }
-    requests
+    (0..500).flat_map(&mut request).collect()
 }

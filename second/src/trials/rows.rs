@@ -1,52 +1,53 @@
-//! `trial_rows`: every row of Table 1, and ψ inverses.
+//! Every row of Table 1, and temperatures of ψ.
 
 use crate::air;
 use crate::answer::fields;
 use crate::dice::Dice;
 use crate::trials::EXTREMES;
 
-pub fn requests() -> Vec<String> {
-    [rows(), edges(), inverses(), lent_lists(), blocks()].concat()
-}
-
 /// ψ at a whole kelvin, as a target.
 fn psi(kelvin: i64) -> i64 {
     air::psi(1000 * kelvin).expect("a kelvin of the table")
 }
 
-fn rows() -> Vec<String> {
-    (200..=2000).map(|kelvin| fields("air-row", &[kelvin])).collect()
+/// Heat and ψ at each of the temperatures.
+fn readings(mks: impl Iterator<Item = i64>) -> Vec<String> {
+    mks.flat_map(|mk| ["air-heat", "air-psi"].map(|word| fields(word, &[mk]))).collect()
 }
 
-fn edges() -> Vec<String> {
+/// Heat, ψ and Cp of all 1,801 rows.
+pub fn every_row() -> Vec<String> {
+    let row = |kelvin: i64| {
+        [("air-heat", 1000), ("air-psi", 1000), ("air-cp", 1)]
+            .map(|(word, unit)| fields(word, &[unit * kelvin]))
+    };
+    (200..=2000).flat_map(row).collect()
+}
+
+/// Readings beside the ends, 15 °C and zero.
+pub fn edges() -> Vec<String> {
     let beside = |limit: i64| [limit - 1, limit, limit + 1];
     let mks = [&beside(200_000)[..], &beside(288_160), &beside(2_000_000), &EXTREMES].concat();
     let kelvins = [&beside(200)[..], &beside(2000), &[200_000], &EXTREMES].concat();
-    let ask = |word: &str, numbers: &[i64]| -> Vec<String> {
-        numbers.iter().map(|number| fields(word, &[*number])).collect()
+    let cps = kelvins.iter().map(|kelvin| fields("air-cp", &[*kelvin]));
+    readings(mks.into_iter()).into_iter().chain(cps).collect()
+}
+
+/// Heat and ψ in each row one thousandth, a half, 999 thousandths and two random steps above its kelvin.
+pub fn between(dice: &mut Dice) -> Vec<String> {
+    let mut above = |kelvin: i64| {
+        let random = [dice.from_to(2, 499), dice.from_to(501, 998)];
+        [1, 500, 999, random[0], random[1]].map(|mk| 1000 * kelvin + mk)
     };
-    [ask("air-heat", &mks), ask("air-psi", &mks), ask("air-cp", &kelvins)].concat()
+    readings((200..2000).flat_map(&mut above))
 }
 
-/// At, one under and one over ψ of every ninth kelvin; beyond both ends; at random.
-fn inverses() -> Vec<String> {
-    let mut dice = Dice::new(0x0a17);
-    let kelvins = (200..=2000).step_by(9);
-    let beside = kelvins.flat_map(|kelvin| [-1, 0, 1].map(|off| psi(kelvin) + off));
-    let random = (0..200).map(|_| dice.from_to(psi(200), psi(2000)));
-    let targets = beside.chain(random).chain(EXTREMES);
+/// At, one under and one over ψ of every kelvin; every 379th ψ from below the lowest until past the
+/// highest; at random, and far off.
+pub fn inverses(dice: &mut Dice) -> Vec<String> {
+    let beside = (200..=2000).flat_map(|kelvin| [-1, 0, 1].map(|off| psi(kelvin) + off));
+    let apart = (psi(200) - 500 - dice.from_to(0, 378)..=psi(2000) + 379).step_by(379);
+    let random: Vec<i64> = (0..5000).map(|_| dice.from_to(psi(200), psi(2000))).collect();
+    let targets = beside.chain(apart).chain(random).chain(EXTREMES);
     targets.map(|target| fields("air-temperature", &[target])).collect()
-}
-
-fn lent_lists() -> Vec<String> {
-    let targets = [psi(200) - 1, psi(200), 95_302_000, psi(1100), psi(2000), psi(2000) + 1];
-    let lengths = [0, 1, 10, 11, 12, 22, 40];
-    let ask = |length: i64| targets.map(|psi| fields("air-temperature-into", &[length, psi]));
-    lengths.into_iter().flat_map(ask).collect()
-}
-
-/// Every 379th ψ from 500 below the lowest, in blocks of a thousand, until past the highest.
-fn blocks() -> Vec<String> {
-    let firsts = (psi(200) - 500..=psi(2000)).step_by(379_000);
-    firsts.map(|first| fields("air-temperatures", &[first, 379, 1000])).collect()
 }

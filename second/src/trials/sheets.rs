@@ -1,61 +1,162 @@
-//! `trial_sheets`: texts good and damaged, and lists at both sides of the step rule.
+//! Sheets: base lists and texts, accepted ones, texts good and damaged, and lists at both sides of the step rule.
 
-use crate::answer::fields;
 use crate::dice::Dice;
-use crate::sheet::{GREATEST, PLACES, ROWS};
+use crate::sheet::{self, GREATEST, PLACES, ROWS};
 use crate::table::table;
-use crate::trials::lists::base_text;
 
 /// Bytes that a text may be spoilt, or not spoilt, with.
 const BYTES: &[u8] = b"0129\t\n\r-+ x.\x00\x7f\xff";
 
-pub fn requests() -> Vec<String> {
-    let bases = [0, 1, 2].map(Base::new);
-    let texts = [
-        small_texts(),
-        lengths(),
-        numbers(&bases[1]),
-        cuts(&bases),
-        changed_bytes(&bases),
-        whole_rows(&bases),
-        random_texts(&bases),
-    ];
-    [texts.concat(), step_rule(), limit_and_falls(), random_lists()].concat()
-}
+/// An edit of a list: from a place on, so many places, three apart, become the value.
+type Edit = [usize; 3];
 
-/// A base text and where its rows begin (and, last, where it ends).
-struct Base {
-    number: i64,
+/// Accepted lists at the ends of what the step rule lets pass: a base list and edits of it.
+const ACCEPTED: [(usize, &[Edit]); 10] = [
+    (0, &[]),
+    (1, &[]),
+    (2, &[]),
+    // O2 alone at its most, CO2 and H2O alone at theirs.
+    (1, &[[0, 1801, 200_000]]),
+    (2, &[[0, 1801, 0]]),
+    // O2 rising by exactly four times air.
+    (3, &[]),
+    // The same, with jumps of CO2 and H2O to the limit: 1,000 to 1,001 K, 288 to 289 K.
+    (3, &[[2404, 1000, 200_000], [2405, 1000, 200_000]]),
+    (3, &[[268, 1712, 200_000], [269, 1712, 100_000]]),
+    // Jumps at the ends: 200 to 201 K, 1,999 to 2,000 K.
+    (1, &[[4, 1800, 200_000]]),
+    (1, &[[5401, 1, 200_000], [5402, 1, 200_000]]),
+];
+
+/// Both sides of each limit that a sheet file can meet: 0 to 200,000, O2 rises by four times air (24 hundredths from 200 to 201 K),
+/// no gas falls. The first of each two is accepted.
+const LIMITS: [(usize, &[Edit]); 6] = [
+    (1, &[[2, 1801, 200_000]]),
+    (1, &[[2, 1801, 200_001]]),
+    (1, &[[3, 1800, 96]]),
+    (1, &[[3, 1800, 97]]),
+    (2, &[[5402, 1, 200_000]]),
+    (2, &[[5402, 1, 199_999]]),
+];
+
+/// A base: its list, its text, and where the rows of the text begin (and, last, where it ends).
+pub struct Base {
+    list: Vec<u32>,
     text: Vec<u8>,
     rows: Vec<usize>,
 }
 
 impl Base {
-    fn new(number: i64) -> Base {
-        let text = base_text(number);
+    fn new(list: Vec<u32>) -> Base {
+        let text = sheet::text(&list).into_bytes();
         let ends = (1..=text.len()).filter(|end| text[end - 1] == b'\n');
         let rows = [0].into_iter().chain(ends).collect();
-        Base { number, text, rows }
+        Base { list, text, rows }
     }
 
-    /// The request that reads this text with bytes dropped and put in at a place.
-    fn edit(&self, at: usize, dropped: usize, bytes: &[u8]) -> String {
-        text(self.number, PLACES, at, dropped, bytes)
+    /// The text with bytes dropped and put in at a place.
+    fn edit(&self, at: usize, dropped: usize, bytes: &[u8]) -> Vec<u8> {
+        [&self.text[..at], bytes, &self.text[at + dropped..]].concat()
     }
 
-    fn cut(&self, at: usize) -> String {
-        self.edit(at, self.text.len() - at, b"")
+    fn cut(&self, at: usize) -> Vec<u8> {
+        self.text[..at].to_vec()
+    }
+
+    /// The list of that length, with zeros behind it if it is longer, and then edited.
+    fn list(&self, length: usize, edits: &[Edit]) -> Vec<u32> {
+        let mut list = self.list.clone();
+        list.resize(length, 0);
+        for [place, count, value] in edits {
+            (0..*count).for_each(|i| list[place + 3 * i] = *value as u32);
+        }
+        list
     }
 }
 
-fn text(base: i64, length: usize, at: usize, dropped: usize, bytes: &[u8]) -> String {
-    let head = [base, length as i64, at as i64, dropped as i64];
-    let bytes = bytes.iter().map(|byte| i64::from(*byte));
-    fields("text", &head.into_iter().chain(bytes).collect::<Vec<i64>>())
+/// The built-in sheet, all zero, all at the limit, and O2 rising by exactly four times air from 0 at 200 K with the others zero.
+pub fn bases() -> [Base; 4] {
+    let air = &table().heat;
+    let steepest = air.iter().flat_map(|heat| [4 * (heat - air[0]) as u32, 0, 0]).collect();
+    [sheet::built_in(), vec![0; PLACES], vec![GREATEST; PLACES], steepest].map(Base::new)
+}
+
+fn edited(lists: &[(usize, &[Edit])]) -> Vec<Vec<u32>> {
+    let bases = bases();
+    lists.iter().map(|(base, edits)| bases[*base].list(PLACES, edits)).collect()
+}
+
+/// The accepted lists at the ends of the step rule, the built-in sheet first.
+pub fn accepted() -> Vec<Vec<u32>> {
+    edited(&ACCEPTED)
+}
+
+/// A random accepted list: gases that rise by small steps, now and then with a jump.
+pub fn random(dice: &mut Dice) -> Vec<u32> {
+    let air = &table().heat;
+    let mut row = [0, 1, 2].map(|_| dice.below(3_000) as i64);
+    let mut list = Vec::new();
+    for at in 0..ROWS {
+        let steepest = if at == 0 { 0 } else { 4 * (air[at] - air[at - 1]) };
+        row[0] += dice.from_to(0, steepest);
+        for gas in &mut row[1..] {
+            let jump = dice.below(600) == 0;
+            *gas += dice.from_to(0, if jump { 50_000 } else { 60 });
+        }
+        row = row.map(|gas| gas.min(GREATEST as i64));
+        list.extend(row.map(|gas| gas as u32));
+    }
+    list
+}
+
+/// One place becomes another number: refused with its row or the next, if at all.
+pub fn damage(dice: &mut Dice, list: &mut [u32]) {
+    let place = dice.below(list.len() as u64) as usize;
+    let edges = [0, GREATEST, GREATEST + 1, u32::MAX, list[place].saturating_sub(1)];
+    let near = list[place].saturating_add(dice.below(130) as u32);
+    list[place] = dice.one_of(&[&edges[..], &[near]].concat());
+}
+
+/// Texts at both sides of each limit of a sheet file: its numbers, its step rule, its 1,801 rows.
+pub fn limit_texts() -> Vec<Vec<u8>> {
+    let lists = edited(&LIMITS);
+    let mut texts: Vec<Vec<u8>> = lists.iter().map(|list| sheet::text(list).into_bytes()).collect();
+    let zeros = &bases()[1];
+    let (last, end) = (zeros.rows[ROWS - 1], zeros.text.len());
+    texts.extend([Vec::new(), zeros.cut(last), zeros.cut(end - 1), zeros.cut(end)]);
+    texts.push(zeros.edit(end, 0, b"\n"));
+    texts
+}
+
+/// Lists at both sides of the same limits, and of the length of a list.
+pub fn limit_lists() -> Vec<Vec<u32>> {
+    let zeros = [PLACES - 1, PLACES, PLACES + 1].map(|length| vec![0; length]);
+    [edited(&LIMITS), zeros.to_vec()].concat()
+}
+
+/// Looks at each text: small ones, and base texts damaged at every kind of place and at random.
+pub fn each_text(dice: &mut Dice, look: &mut dyn FnMut(&[u8])) {
+    let bases = bases();
+    small_texts().iter().for_each(|text| look(text));
+    limit_texts().iter().for_each(|text| look(text));
+    numbers(&bases[1], look);
+    cuts(dice, &bases[..3], look);
+    changed_bytes(&bases[..3], look);
+    whole_rows(dice, &bases[..3], look);
+    (0..3000).for_each(|_| look(&random_text(dice, &bases)));
+}
+
+/// Looks at each list: both sides of the step rule in every row, of the limits, and random edits.
+pub fn each_list(dice: &mut Dice, look: &mut dyn FnMut(&[u32])) {
+    let bases = bases();
+    limit_lists().iter().for_each(|list| look(list));
+    step_rule(&bases, look);
+    limit_and_falls(&bases, look);
+    (0..1000).for_each(|_| look(&random_list(dice, &bases)));
 }
 
 /// Texts of a few bytes, each as it stands and after a good row.
-fn small_texts() -> Vec<String> {
+fn small_texts() -> Vec<Vec<u8>> {
     let texts = [
         "",
         "2",
@@ -102,25 +203,16 @@ fn small_texts() -> Vec<String> {
         "\r\n",
         " 200\t1\t2\t3\n",
     ];
-    let alone = texts.iter().map(|t| text(3, PLACES, 0, 0, t.as_bytes()));
+    let alone = texts.iter().map(|t| t.as_bytes().to_vec());
     let after_a_row = texts.iter().map(|t| {
         let second = t.replacen("200", "201", 1);
-        text(3, PLACES, 0, 0, format!("200\t0\t199999\t200000\n{second}").as_bytes())
+        format!("200\t0\t199999\t200000\n{second}").into_bytes()
     });
     alone.chain(after_a_row).collect()
 }
 
-/// Lent lists of every length that matters, with a good text, a bad one and none.
-fn lengths() -> Vec<String> {
-    let lengths = [0, 1, 3, PLACES - 3, PLACES - 1, PLACES, PLACES + 1, PLACES + 3, 6000];
-    let ask = |length| {
-        [text(0, length, 0, 0, b""), text(0, length, 9, 1, b"x"), text(3, length, 0, 0, b"")]
-    };
-    lengths.into_iter().flat_map(ask).collect()
-}
-
 /// Numbers about the limit in each column of some rows; the text of zeros has a byte for each.
-fn numbers(zeros: &Base) -> Vec<String> {
+fn numbers(zeros: &Base, look: &mut dyn FnMut(&[u8])) {
     let numbers: [&[u8]; 20] = [
         b"",
         b"0",
@@ -143,137 +235,115 @@ fn numbers(zeros: &Base) -> Vec<String> {
         b"2000000",
         b"4294967296",
     ];
-    let mut requests = Vec::new();
     for row in [0, 1, 799, 800, 1799, 1800] {
         for column in 1..=3 {
             let at = zeros.rows[row + 1] - 2 * (4 - column);
-            requests.extend(numbers.map(|number| zeros.edit(at, 1, number)));
+            numbers.iter().for_each(|number| look(&zeros.edit(at, 1, number)));
         }
     }
-    requests
 }
 
 /// Cut at every byte of the first, the last and the first four-digit rows, and at random.
-fn cuts(bases: &[Base]) -> Vec<String> {
-    let mut dice = Dice::new(0xc075);
-    let mut requests = Vec::new();
+fn cuts(dice: &mut Dice, bases: &[Base], look: &mut dyn FnMut(&[u8])) {
     for base in bases {
         for row in [0, 799, 1799] {
-            requests.extend((base.rows[row]..=base.rows[row + 2]).map(|at| base.cut(at)));
+            (base.rows[row]..=base.rows[row + 2]).for_each(|at| look(&base.cut(at)));
         }
         let length = base.text.len() as u64;
-        requests.extend((0..150).map(|_| base.cut(dice.below(length) as usize)));
+        (0..150).for_each(|_| look(&base.cut(dice.below(length) as usize)));
     }
-    requests
 }
 
 /// Every byte of some rows dropped, and each of the bytes above put in its place and before it.
-fn changed_bytes(bases: &[Base]) -> Vec<String> {
-    let mut requests = Vec::new();
+fn changed_bytes(bases: &[Base], look: &mut dyn FnMut(&[u8])) {
     for (base, rows) in bases.iter().zip([vec![0, 800, 1800], vec![1], vec![799]]) {
         for row in rows {
             for at in base.rows[row]..base.rows[row + 1] {
-                requests.push(base.edit(at, 1, b""));
+                look(&base.edit(at, 1, b""));
                 for byte in BYTES.chunks(1) {
-                    requests.extend([base.edit(at, 1, byte), base.edit(at, 0, byte)]);
+                    look(&base.edit(at, 1, byte));
+                    look(&base.edit(at, 0, byte));
                 }
             }
         }
         let end = base.text.len();
-        requests.extend(BYTES.chunks(1).map(|byte| base.edit(end, 0, byte)));
+        BYTES.chunks(1).for_each(|byte| look(&base.edit(end, 0, byte)));
     }
-    requests
 }
 
 /// Rows dropped, doubled, and changed for the next one.
-fn whole_rows(bases: &[Base]) -> Vec<String> {
-    let mut dice = Dice::new(0x20e5);
-    let mut requests = Vec::new();
+fn whole_rows(dice: &mut Dice, bases: &[Base], look: &mut dyn FnMut(&[u8])) {
     for base in bases {
         let random: Vec<usize> = (0..15).map(|_| dice.below(1800) as usize).collect();
         for row in [&[0, 798, 799, 1799], &random[..]].concat() {
             let (from, to, next) = (base.rows[row], base.rows[row + 1], base.rows[row + 2]);
             let changed = [&base.text[to..next], &base.text[from..to]].concat();
-            requests.push(base.edit(from, to - from, b""));
-            requests.push(base.edit(from, 0, &base.text[from..to]));
-            requests.push(base.edit(from, next - from, &changed));
+            look(&base.edit(from, to - from, b""));
+            look(&base.edit(from, 0, &base.text[from..to]));
+            look(&base.edit(from, next - from, &changed));
         }
     }
-    requests
 }
 
 /// Up to three bytes dropped and up to three put in, anywhere.
-fn random_texts(bases: &[Base]) -> Vec<String> {
-    let mut dice = Dice::new(0x7e87);
-    let mut request = |_| {
-        let base = &bases[dice.below(3) as usize];
-        let at = dice.below(base.text.len() as u64 + 1) as usize;
-        let dropped = (dice.below(4) as usize).min(base.text.len() - at);
-        let digits = dice.below(2) == 0;
-        let byte = |dice: &mut Dice| dice.one_of(if digits { b"0123456789" } else { BYTES });
-        let bytes: Vec<u8> = (0..dice.below(4)).map(|_| byte(&mut dice)).collect();
-        base.edit(at, dropped, &bytes)
-    };
-    (0..2000).map(&mut request).collect()
-}
-
-/// The request that judges a base list of that length after edits.
-fn list(base: i64, length: usize, edits: &[[i64; 3]]) -> String {
-    let head = [base, length as i64];
-    fields("list", &[&head, &edits.concat()[..]].concat())
+pub fn random_text(dice: &mut Dice, bases: &[Base]) -> Vec<u8> {
+    let base = &bases[dice.below(bases.len() as u64) as usize];
+    let at = dice.below(base.text.len() as u64 + 1) as usize;
+    let dropped = (dice.below(4) as usize).min(base.text.len() - at);
+    let bytes = dice.one_of(&[b"0123456789", BYTES]);
+    let put: Vec<u8> = (0..dice.below(4)).map(|_| dice.one_of(bytes)).collect();
+    base.edit(at, dropped, &put)
 }
 
 /// For each row: O2 rises into it by four times the rise of air, and by one more. Then O2 that
 /// always rises as steeply as it may, one more in a row, and one less.
-fn step_rule() -> Vec<String> {
-    let steps = (1..ROWS as i64).flat_map(|row| {
-        let air = |row: i64| table().heat[row as usize];
+fn step_rule(bases: &[Base], look: &mut dyn FnMut(&[u32])) {
+    let air = |row: usize| table().heat[row] as usize;
+    for row in 1..ROWS {
         let rise = 4 * (air(row) - air(row - 1));
-        [rise, rise + 1].map(|rise| list(1, PLACES, &[[3 * row, ROWS as i64 - row, rise]]))
-    });
-    let steep = (0..ROWS as i64).step_by(23).flat_map(|row| {
-        let o2 = 4 * (table().heat[row as usize] - table().heat[0]);
-        [o2 + 1, o2 - 1].map(|o2| list(3, PLACES, &[[3 * row, 1, o2.max(0)]]))
-    });
-    steps.chain([list(3, PLACES, &[])]).chain(steep).collect()
+        for rise in [rise, rise + 1] {
+            look(&bases[1].list(PLACES, &[[3 * row, ROWS - row, rise]]));
+        }
+    }
+    look(&bases[3].list);
+    for row in (0..ROWS).step_by(23) {
+        let o2 = 4 * (air(row) - air(0));
+        for o2 in [o2 + 1, o2.saturating_sub(1)] {
+            look(&bases[3].list(PLACES, &[[3 * row, 1, o2]]));
+        }
+    }
 }
 
 /// Lengths; a value at, over and far over the limit; a gas that falls by one, or that jumps.
-fn limit_and_falls() -> Vec<String> {
-    let lengths = [0, 1, PLACES - 3, PLACES - 1, PLACES, PLACES + 1, PLACES + 3, 6000];
-    let most = i64::from(GREATEST);
-    let mut requests: Vec<String> =
-        (0..4).flat_map(|base| lengths.map(|length| list(base, length, &[]))).collect();
-    requests.push(list(2, PLACES - 1, &[[0, 1, most + 1]]));
+fn limit_and_falls(bases: &[Base], look: &mut dyn FnMut(&[u32])) {
+    let most = GREATEST as usize;
+    for length in [0, 1, PLACES - 3, PLACES - 1, PLACES, PLACES + 1, PLACES + 3, 6000] {
+        bases.iter().for_each(|base| look(&base.list(length, &[])));
+    }
+    look(&bases[2].list(PLACES - 1, &[[0, 1, most + 1]]));
     for row in [0, 1, 5, 900, 1799, 1800] {
         for place in 3 * row..3 * row + 3 {
-            let rows = ROWS as i64 - row;
-            for value in [most, most + 1, i64::from(u32::MAX)] {
-                requests.push(list(1, PLACES, &[[place, 1, value]]));
-                requests.push(list(1, PLACES, &[[place, rows, value]]));
+            for value in [most, most + 1, u32::MAX as usize] {
+                look(&bases[1].list(PLACES, &[[place, 1, value]]));
+                look(&bases[1].list(PLACES, &[[place, ROWS - row, value]]));
             }
-            requests.push(list(2, PLACES, &[[place, 1, most - 1]]));
-            requests.push(list(2, PLACES, &[[place, rows, most - 1]]));
-            requests.push(list(0, PLACES, &[[place, 1, 0]]));
+            look(&bases[2].list(PLACES, &[[place, 1, most - 1]]));
+            look(&bases[2].list(PLACES, &[[place, ROWS - row, most - 1]]));
+            look(&bases[0].list(PLACES, &[[place, 1, 0]]));
         }
     }
-    requests
 }
 
-/// One or two places of a base list set anew.
-fn random_lists() -> Vec<String> {
-    let mut dice = Dice::new(0x1157);
-    let mut request = |_| {
-        let base = dice.from_to(0, 3);
-        let mut edit = || {
-            let place = dice.from_to(0, PLACES as i64 - 1);
-            let most = (PLACES as i64 - 1 - place) / 3 + 1;
-            let count = if dice.below(2) == 0 { 1 } else { dice.from_to(0, most) };
-            let large = dice.from_to(0, 200_002);
-            [place, count, dice.one_of(&[0, 200_000, 200_001, large, large >> 6])]
-        };
-        let edits = [edit(), edit()];
-        list(base, PLACES, &edits[..dice.from_to(1, 2) as usize])
+/// One or two places, or columns from a place on, of a base list set anew.
+fn random_list(dice: &mut Dice, bases: &[Base]) -> Vec<u32> {
+    let mut edit = |_| {
+        let place = dice.below(PLACES as u64) as usize;
+        let most = (PLACES - 1 - place) / 3 + 1;
+        let count = dice.one_of(&[1, most]).min(1 + dice.below(most as u64) as usize);
+        let large = dice.below(200_003) as usize;
+        [place, count, dice.one_of(&[0, 200_000, 200_001, large, large >> 6])]
     };
-    (0..600).map(&mut request).collect()
+    let edits: Vec<Edit> = (0..2).map(&mut edit).collect();
+    let many = 1 + dice.below(2) as usize;
+    bases[dice.below(4) as usize].list(PLACES, &edits[..many])
 }

@@ -1,82 +1,58 @@
-//! `trial_walks`: walks of every length, most into lent lists, many of them damaged.
+//! Walks of every length, many of them damaged.
 
 use crate::answer::fields;
 use crate::dice::Dice;
 use crate::gas::{Charge, Gases};
 use crate::inverse::PLACES;
-use crate::trials::gas::{gases, lean_charge, REFUSED, SHEETS};
-use crate::trials::lists::edited_list;
+use crate::trials::gas::lean_charge;
 use crate::trials::EXTREMES;
 use crate::walk::{step_heat, walk, Lent, Outcome, State};
 
 const MOST: i128 = 1_000_000_000_000_000_000;
 
+/// Lengths in the share that they are wanted.
+const LENGTHS: [usize; 15] = [0, 1, 1, 1, 1, 1, 1, 2, 2, 2, 3, 3, 4, 5, 10];
+
 /// A walk: A, c, h, mK and the numbers of its steps.
 #[derive(Clone)]
-struct Walk {
+pub struct Walk {
     start: [i64; 4],
     steps: Vec<i64>,
 }
 
 impl Walk {
-    /// The request that gives every step in full.
-    fn whole(&self) -> String {
+    /// The request of `keys ask`.
+    fn request(&self) -> String {
         fields("walk", &[&self.start[..], &self.steps].concat())
     }
 
-    /// The request with lists longer by those places (or shorter) than the steps need.
-    fn lent(&self, more: [i64; 3]) -> String {
-        let n = (self.steps.len() / 4) as i64;
-        let lengths = [n + more[0], n + more[1], PLACES as i64 * n + more[2]];
-        let lengths = lengths.map(|length| length.max(0));
-        fields("walk-into", &[&lengths[..], &self.start, &self.steps].concat())
+    /// The question of `keys walk`: four numbers a line, so numbers over at the end are left out.
+    pub fn question(&self) -> String {
+        let lines = [&self.start[..]].into_iter().chain(self.steps.chunks_exact(4));
+        let line =
+            |of: &[i64]| of.iter().map(i64::to_string).collect::<Vec<String>>().join("\t") + "\n";
+        lines.map(line).collect()
     }
 }
 
-pub fn requests() -> Vec<String> {
-    let mut dice = Dice::new(0x3a1c);
-    let mut requests = Vec::new();
-    for sheet in SHEETS {
-        requests.push(fields("sheet", sheet));
-        requests.extend(of_a_sheet(&mut dice, sheet));
-    }
-    let some = Walk { start: [3, 1, 4, 300_000], steps: vec![0, 0, 0, 1] };
-    for sheet in REFUSED {
-        requests.push(fields("sheet", sheet));
-        let odd = Walk { steps: vec![0], ..some };
-        requests.extend([some.whole(), odd.lent([-9, 0, 0]), some.lent([-1, 0, 0])]);
-    }
-    requests
+/// So many good walks on an accepted sheet, each followed by one that is damaged; and long ones.
+pub fn requests(dice: &mut Dice, list: &[u32], pairs: usize) -> Vec<String> {
+    walks(dice, list, pairs).iter().map(Walk::request).collect()
 }
 
-/// Walks on one accepted sheet.
-fn of_a_sheet(dice: &mut Dice, sheet: &[i64]) -> Vec<String> {
-    let mut requests = Vec::new();
-    let list = edited_list(sheet[0], sheet[1], &sheet[2..]);
-    let gases = gases(sheet);
-    for length in [0, 1, 2, 3, 10] {
-        requests.push(random_walk(dice, &list, &gases, length).whole());
+pub fn walks(dice: &mut Dice, list: &[u32], pairs: usize) -> Vec<Walk> {
+    let gases = Gases::of(list).expect("an accepted sheet");
+    let mut walks = Vec::new();
+    for length in LENGTHS.iter().cycle().take(pairs) {
+        let good = random_walk(dice, list, &gases, *length);
+        walks.push(damage(dice, &good));
+        walks.push(good);
     }
-    let long = random_walk(dice, &list, &gases, 64);
-    requests.extend([long.lent([0, 0, 0]), long.lent([3, 2, 50])]);
-    for length in LENGTHS.iter().cycle().take(150) {
-        let good = random_walk(dice, &list, &gases, *length);
-        let more = dice.one_of(&[[0, 0, 0], [1, 2, 3], [0, 5, 11], [6, 0, 30]]);
-        requests.push(good.lent(more));
-        let damaged = damage(dice, &good);
-        requests.push(damaged.lent(more));
+    for length in [63, 64, 65] {
+        walks.push(random_walk(dice, list, &gases, length));
     }
-    let mut over = random_walk(dice, &list, &gases, 1);
-    over.steps.resize(4 * 65, 0);
-    requests.push(over.lent([0, 0, 0]));
-    for more in [[-1, 0, 0], [0, -1, 0], [0, 0, -1], [-1, -1, -1], [-9, 9, 9]] {
-        requests.push(random_walk(dice, &list, &gases, 2).lent(more));
-    }
-    requests
+    walks
 }
-
-/// Lengths in the share that they are wanted.
-const LENGTHS: [usize; 15] = [0, 1, 1, 1, 1, 1, 1, 2, 2, 2, 3, 3, 4, 5, 10];
 
 /// A walk of that length, each step from where the steps before lead.
 fn random_walk(dice: &mut Dice, list: &[u32], gases: &Gases, length: usize) -> Walk {

@@ -1,4 +1,0 @@
-// `keys ask`: requests on standard input.
-fn main() {
-    desk::run();
-}

@@ -1,4 +1,0 @@
-// `keys sheet FILE`: a sheet that is accepted.
-fn main() {
-    desk::run();
-}

@@ -1,4 +1,0 @@
-// `keys walk`: a question on standard input, the walk that it asks for.
-fn main() {
-    desk::run();
-}

@@ -1,0 +1,109 @@
+//! Runs of `keys` made from a seed, each with what it has to write: requests of every kind over sheets of every kind, printed walks
+//! and judged sheet files.
+
+use crate::dice::Dice;
+use crate::gas::Gases;
+use crate::program::Run;
+use crate::sheet;
+use crate::trials::sheets::{accepted, bases, damage, limit_texts, random, random_text, Base};
+use crate::trials::{gas, marks, rows, walks};
+
+/// The name of a file of a run.
+const SHEET: &str = "sheet.tsv";
+const QUESTION: &str = "question.tsv";
+
+/// All runs of a seed: the name of each, and the run.
+pub fn runs(seed: u64) -> Vec<(String, Run)> {
+    let dice = &mut Dice::new(seed);
+    let kinds = [
+        ("rows", vec![ask(&[rows::edges(), rows::between(dice), rows::inverses(dice)].concat())]),
+        ("marks", vec![ask(&marks::requests(dice))]),
+        ("burn", vec![ask(&gas::burning(dice))]),
+        ("gas", over_good_sheets(dice)),
+        ("bad-sheet", over_bad_sheets(dice)),
+        ("walk", printed_walks(dice)),
+        ("sheet", judged_sheets(dice)),
+    ];
+    let named = |(kind, runs): (&str, Vec<Run>)| {
+        let numbered = runs.into_iter().enumerate();
+        numbered.map(|(i, run)| (format!("{kind}-{i}"), run)).collect::<Vec<_>>()
+    };
+    kinds.into_iter().flat_map(named).collect()
+}
+
+/// Requests over the built-in sheet.
+fn ask(requests: &[String]) -> Run {
+    Run::new(&["ask"], lines(requests))
+}
+
+/// Requests over the sheet of a file.
+fn ask_over(text: Vec<u8>, requests: &[String]) -> Run {
+    Run::new(&["ask", "--sheet", SHEET], lines(requests)).with(SHEET, text)
+}
+
+fn lines(requests: &[String]) -> String {
+    requests.iter().map(|line| format!("{line}\n")).collect()
+}
+
+/// Gas requests and walks over the built-in sheet, the accepted ones at the ends of the step rule, and random ones.
+fn over_good_sheets(dice: &mut Dice) -> Vec<Run> {
+    let random: Vec<Vec<u32>> = (0..20).map(|_| random(dice)).collect();
+    let mut run = |(i, list): (usize, Vec<u32>)| {
+        let gases = Gases::of(&list).expect("an accepted sheet");
+        let requests = [gas::requests(dice, &gases), walks::requests(dice, &list, 100)].concat();
+        match i {
+            0 => ask(&requests),
+            _ => ask_over(sheet::text(&list).into_bytes(), &requests),
+        }
+    };
+    [accepted(), random].concat().into_iter().enumerate().map(&mut run).collect()
+}
+
+/// Every request that takes a sheet over texts that are refused, or may be.
+fn over_bad_sheets(dice: &mut Dice) -> Vec<Run> {
+    let bases = bases();
+    let mut texts = limit_texts();
+    texts.extend((0..60).map(|_| any_text(dice, &bases)));
+    let requests = [rows::edges(), gas::waiting()].concat();
+    texts.into_iter().map(|text| ask_over(text, &requests)).collect()
+}
+
+/// A text with bytes changed, or that of a random list with a number changed.
+fn any_text(dice: &mut Dice, bases: &[Base]) -> Vec<u8> {
+    if dice.below(2) == 0 {
+        return random_text(dice, bases);
+    }
+    let mut list = random(dice);
+    damage(dice, &mut list);
+    sheet::text(&list).into_bytes()
+}
+
+/// Questions from standard input and from a file, over the built-in sheet, another and a refused one.
+fn printed_walks(dice: &mut Dice) -> Vec<Run> {
+    let bases = bases();
+    let (built_in, other) = (sheet::built_in(), random(dice));
+    let mut runs = Vec::new();
+    for walk in walks::walks(dice, &built_in, 100) {
+        runs.push(Run::new(&["walk"], walk.question()));
+    }
+    for walk in walks::walks(dice, &other, 50) {
+        let text = dice.one_of(&[&other, &other, &built_in]);
+        let text = match dice.below(8) {
+            0 => any_text(dice, &bases),
+            _ => sheet::text(text).into_bytes(),
+        };
+        let run = Run::new(&["walk", QUESTION, "--sheet", SHEET], String::new());
+        runs.push(run.with(QUESTION, walk.question().into_bytes()).with(SHEET, text));
+    }
+    runs
+}
+
+/// Sheet files at both sides of each limit, accepted ones and any.
+fn judged_sheets(dice: &mut Dice) -> Vec<Run> {
+    let bases = bases();
+    let mut texts = limit_texts();
+    texts.extend(accepted().iter().map(|list| sheet::text(list).into_bytes()));
+    texts.extend((0..300).map(|_| any_text(dice, &bases)));
+    let judged = |text| Run::new(&["sheet", SHEET], String::new()).with(SHEET, text);
+    texts.into_iter().map(judged).collect()
+}
