@@ -17,6 +17,7 @@ use Rattle.gas.specs.declared.TemperatureAnswer.{TemperatureAnswer}
 use Rattle.gas.specs.Burning.{Weights}
 use Rattle.gas.specs.Answers.{paperTemperature, Temperature}
 use Rattle.walk.specs.declared.WalkAnswer.{WalkAnswer}
+use Rattle.walk.specs.Lists.{Lists}
 use Rattle.walk.specs.Walk.{Trace, paperWalk, Walks}
 use Rattle.capi.specs.declared.SheetTold.{SheetTold}
 use Rattle.capi.specs.declared.TemperatureTold.{TemperatureTold}
@@ -52,6 +53,5 @@ temperature-told p q = record { told = q ∙ ap flatTemperature (p .told); list 
 pub psi-told : {target : ℤ} {before after : List ℕ} {a : PsiAnswer} {r : PsiTold} → PsiInverse target before a after → r ≡ flatPsi (paperPsi a) → PsiIs target before r after
 psi-told p q = record { told = q ∙ ap flatPsi (p .told); list = p .list }
 
-pub walk-told : {told : Told Trace} {t r t′ r′ : List ℤ} {l l′ : List ℕ} {a : WalkAnswer} {o : WalkTold}
-    → Walks told t r l a t′ r′ l′ → o ≡ flatWalk (paperWalk a) → WalkIs told t r l o t′ r′ l′
-walk-told p q = record { answer = q ∙ ap flatWalk (p .answer); temperatures = p .temperatures; rests = p .rests; looks = p .looks }
+pub walk-told : {told : Told Trace} {before after : Lists} {a : WalkAnswer} {o : WalkTold} → Walks told before a after → o ≡ flatWalk (paperWalk a) → WalkIs told before o after
+walk-told p q = record { answer = q ∙ ap flatWalk (p .answer); lent = p .lent }

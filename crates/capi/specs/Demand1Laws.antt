@@ -22,7 +22,8 @@ use Rattle.gas.specs.declared.Charge.{Charge}
 use Rattle.gas.specs.Burning.{Weights, document01, gasOf}
 use Rattle.gas.specs.Heat.{gasHeat}
 use Rattle.gas.specs.Answers.{chargeLines, heatOrder, searchOrder, burnTold, heatTold, contentTold, specificTold}
-use Rattle.walk.specs.Walk.{Trace, End, ended, cut, run, width, stepsOf, startLines, startState, walked, courseOf, course}
+use Rattle.walk.specs.Lists.{Lists}
+use Rattle.walk.specs.Walk.{Trace, End, ended, cut, run, width, stepsOf, startLines, startState, walked, walkedInto, courseOf, course}
 use Rattle.marking.specs.Marking.{order as markOrder, marked}
 use Rattle.marking.specs.Figures.{stationTold}
 use Rattle.capi.specs.declared.SheetTold.{SheetTold}
@@ -123,10 +124,10 @@ begun : (n : ℕ) (e : End) → flatWalk (gives (courseOf n e)) .begun ≡ 1
 begun n (ended st) = refl
 begun n (cut m st) = refl
 
-module _ (lines : List Line) (w : Weights) (s : List ℕ) (start : Charge) (from : ℤ) (numbers : List ℤ) {t r : List ℤ} {l : List ℕ} {o : WalkTold} {t′ r′ : List ℤ} {l′ : List ℕ}
-    (h : WalkIs (walked lines w s start from numbers (length t) (length r) (length l)) t r l o t′ r′ l′) where
+module _ (lines : List Line) (w : Weights) (s : List ℕ) (start : Charge) (from : ℤ) (numbers : List ℤ) {before : Lists} {o : WalkTold} {after : Lists}
+    (h : WalkIs (walkedInto before lines w s start from numbers) before o after) where
   abbrev order : List Line
-  order = lines ++ startLines w start from (length numbers) (length t) (length r) (length l)
+  order = lines ++ startLines w start from (length numbers) (length (before .temperatures)) (length (before .rests)) (length (before .looks))
 
   abbrev T : Trace
   T = run w s (startState start from) (stepsOf (length numbers / width) numbers)

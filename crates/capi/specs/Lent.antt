@@ -8,14 +8,14 @@ use Rattle.refusal.specs.Refusals.{Told, gives, refused, _when_, first}
 use Rattle.air.specs.Inverse.{looks, written}
 use Rattle.air.specs.Answers.{psiValue, psiInverseTold}
 use Rattle.sheet.specs.Sheet.{notLong}
-use Rattle.sheet.specs.Answers.{Form, readTold, numbersOf}
+use Rattle.sheet.specs.Answers.{Form, readTold, numbersOf, sheetLines}
 use Rattle.built_in.specs.BuiltIn.{builtIn}
 use Rattle.gas.specs.declared.Charge.{Charge}
-use Rattle.gas.specs.Burning.{Weights, gasOf}
+use Rattle.gas.specs.Burning.{Weights, document01, gasOf}
 use Rattle.gas.specs.Heat.{gasHeat}
 use Rattle.gas.specs.Answers.{temperatureTold}
-use Rattle.walk.specs.Lists.{laid}
-use Rattle.walk.specs.Walk.{Trace, course, outsOf, temperaturesOf, restsOf, looksOf}
+use Rattle.walk.specs.Lists.{Lists}
+use Rattle.walk.specs.Walk.{Trace, walkedInto, course, filled}
 use Rattle.capi.specs.declared.SheetTold.{SheetTold}
 use Rattle.capi.specs.declared.TemperatureTold.{TemperatureTold}
 use Rattle.capi.specs.declared.PsiTold.{PsiTold}
@@ -48,8 +48,10 @@ pub record PsiIs (target : ℤ) (before : List ℕ) (r : PsiTold) (after : List 
   pub told : r ≡ flatPsi (psiInverseTold (length before) target)
   pub list : after ≡ written (psiInverseTold (length before) target) (looks psiValue target) before
 
-pub record WalkIs (told : Told Trace) (t r : List ℤ) (l : List ℕ) (o : WalkTold) (t′ r′ : List ℤ) (l′ : List ℕ) : Type 0 where
+pub record WalkIs (told : Told Trace) (before : Lists) (o : WalkTold) (after : Lists) : Type 0 where
   pub answer : o ≡ flatWalk (course told)
-  pub temperatures : t′ ≡ laid (temperaturesOf (outsOf told)) t
-  pub rests : r′ ≡ laid (restsOf (outsOf told)) r
-  pub looks : l′ ≡ laid (looksOf (outsOf told)) l
+  pub lent : after ≡ filled told before
+
+-- what the call of a walk promises: the promise of `walk`, flattened
+abbrev pub WalkCall : List ℕ → Charge → ℤ → List ℤ → Lists → WalkTold → Lists → Type 0
+WalkCall s ch mk numbers before o after = WalkIs (walkedInto before (sheetLines s) document01 s ch mk numbers) before o after

@@ -11,6 +11,7 @@ use Rattle.sheet.specs.FormLaws.{one-form}
 use Rattle.gas.specs.declared.Charge.{Charge}
 use Rattle.gas.specs.Burning.{Weights}
 use Rattle.gas.specs.Answers.{burnTold, heatTold, contentTold, specificTold}
+use Rattle.walk.specs.Lists.{Lists}
 use Rattle.walk.specs.Walk.{Trace}
 use Rattle.marking.specs.Marking.{marked}
 use Rattle.marking.specs.Figures.{stationTold}
@@ -70,9 +71,8 @@ one-gaskeys_temperature p o = (p .told ∙ sym (o .told), p .list ∙ sym (o .li
 pub one-gaskeys_psi_inverse : {target : ℤ} {before after later : List ℕ} {r q : PsiTold} → PsiIs target before r after → PsiIs target before q later → (r ≡ q) × (after ≡ later)
 one-gaskeys_psi_inverse p o = (p .told ∙ sym (o .told), p .list ∙ sym (o .list))
 
-pub one-gaskeys_walk : {told : Told Trace} {t r t′ r′ t″ r″ : List ℤ} {l l′ l″ : List ℕ} {a b : WalkTold}
-    → WalkIs told t r l a t′ r′ l′ → WalkIs told t r l b t″ r″ l″ → (a ≡ b) × (t′ ≡ t″) × (r′ ≡ r″) × (l′ ≡ l″)
-one-gaskeys_walk p o = (p .answer ∙ sym (o .answer), p .temperatures ∙ sym (o .temperatures), p .rests ∙ sym (o .rests), p .looks ∙ sym (o .looks))
+pub one-gaskeys_walk : {told : Told Trace} {before after later : Lists} {a b : WalkTold} → WalkIs told before a after → WalkIs told before b later → (a ≡ b) × (after ≡ later)
+one-gaskeys_walk p o = (p .answer ∙ sym (o .answer), p .lent ∙ sym (o .lent))
 
 pub one-gaskeys_station : (ch : Charge) (mk : ℤ) (s : List ℕ) (r q : StationTold) → r ≡ flatStation (stationTold ch mk s) → q ≡ flatStation (stationTold ch mk s) → r ≡ q
 one-gaskeys_station ch mk s r q p o = p ∙ sym o

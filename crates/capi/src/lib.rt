@@ -10,16 +10,15 @@ use gas::Heat;
 use refusal::Refusal;
 use sheet::SheetAnswer;
 ghost use mathlib.Core.Path.{_≡_};
-ghost use lib.ListN.{length};
 ghost use Rattle.air.specs.Answers.{heatTold as airHeatTold, psiTold as airPsiTold, cpTold as airCpTold};
-ghost use Rattle.sheet.specs.Answers.{sheetLines, judgeTold};
+ghost use Rattle.sheet.specs.Answers.{judgeTold};
 ghost use Rattle.gas.specs.Burning.{document01};
 ghost use Rattle.gas.specs.Answers.{burnTold, heatTold, contentTold, specificTold};
-ghost use Rattle.walk.specs.Walk.{walked};
+ghost use Rattle.walk.specs.Lists.{lists};
 ghost use Rattle.marking.specs.Marking.{marked};
 ghost use Rattle.marking.specs.Figures.{stationTold};
 ghost use Rattle.capi.specs.Flat.{flatSheet, flatBurn, flatHeat, flatReading, flatStation, flatMark, typedOf};
-ghost use Rattle.capi.specs.Lent.{SheetIs, BuiltInIs, TemperatureIs, PsiIs, WalkIs};
+ghost use Rattle.capi.specs.Lent.{SheetIs, BuiltInIs, TemperatureIs, PsiIs, WalkCall};
 
 // up by one where a list or a struct changes its meaning
 const VERSION: u32 = 1;
@@ -289,7 +288,9 @@ pub extern "C" fn gaskeys_walk(
     rests: &mut [i64],
     looks: &mut [u32],
 ) -> WalkTold
-    ensures { λ r. ⌜ WalkIs (walked (sheetLines (now (sheet .entry))) document01 (now (sheet .entry)) (record { air = air; carbon = carbon; hydrogen = hydrogen }) millikelvin (now (steps .entry)) (length (now (temperatures .entry))) (length (now (rests .entry))) (length (now (looks .entry)))) (now (temperatures .entry)) (now (rests .entry)) (now (looks .entry)) r (now (temperatures .exit)) (now (rests .exit)) (now (looks .exit)) ⌝ }
+    ensures { λ r. ⌜ WalkCall (now (sheet .entry)) (record { air = air; carbon = carbon; hydrogen = hydrogen }) millikelvin (now (steps .entry))
+        (lists (now (temperatures .entry)) (now (rests .entry)) (now (looks .entry))) r
+        (lists (now (temperatures .exit)) (now (rests .exit)) (now (looks .exit))) ⌝ }
 {
     let charge = Charge {
         air,

@@ -35,7 +35,7 @@ use Rattle.gas.specs.Burning.{Weights, document01}
 use Rattle.walk.specs.declared.Step.{Step}
 use Rattle.walk.specs.declared.WalkAnswer.{WalkAnswer}
 use Rattle.walk.specs.declared.WalkAnswer.the-variants.{Refused}
-use Rattle.walk.specs.Lists.{laid}
+use Rattle.walk.specs.Lists.{Lists, lists, laid}
 use Rattle.walk.specs.Step.{State, Out}
 use Rattle.walk.specs.Walk.{Trace, End, ended, cut, run, width, stepsOf, wrongSteps, startLines, startState, walked, Course, courseOf, course, outsOf, temperaturesOf, restsOf, looksOf, paperWalk, Walks}
 use Rattle.walk.specs.RunLaws.{step-done, of-run}
@@ -138,7 +138,7 @@ walk-searched Good s ch mk numbers =
 walk-searched (SheetRefused r) s ch mk numbers = none
 
 -- the lists that a walk left hold its steps, and what they show is its text
-module _ {a : WalkAnswer} {t r t′ r′ : List ℤ} {l l′ : List ℕ} (told : Told Trace) (k : Walks told t r l a t′ r′ l′) where
+module _ {a : WalkAnswer} {t r t′ r′ : List ℤ} {l l′ : List ℕ} (told : Told Trace) (k : Walks told (lists t r l) a (lists t′ r′ l′)) where
   -- a list that is as long as it was had a place for each output
   room : (n : ℕ) (x y z : List ℤ) → length x ≡ n → y ≡ laid x z → length z ≡ length y → n ≤ length y
   room n x y z ex ey ez = omega (arith, ap length ey, length-append x (drop (length x) z), length-drop (length x) z)
@@ -147,14 +147,14 @@ module _ {a : WalkAnswer} {t r t′ r′ : List ℤ} {l l′ : List ℕ} (told :
   holds et er el =
       let os = outsOf told in
       let n : length os ≡ stepsIn (paperWalk a) = sym (ap stepsIn (k .answer) ∙ steps-in told) in
-      let ft : stepsIn (paperWalk a) ≤ length t′ = room (stepsIn (paperWalk a)) (temperaturesOf os) t′ t (length-map os (λ (o : Out). pos (o .state .mk)) ∙ n) (k .temperatures) et in
-      let fr : stepsIn (paperWalk a) ≤ length r′ = room (stepsIn (paperWalk a)) (restsOf os) r′ r (length-map os (λ (o : Out). o .rests) ∙ n) (k .rests) er in
+      let ft : stepsIn (paperWalk a) ≤ length t′ = room (stepsIn (paperWalk a)) (temperaturesOf os) t′ t (length-map os (λ (o : Out). pos (o .state .mk)) ∙ n) (ap (λ (x : Lists). x .temperatures) (k .lent)) et in
+      let fr : stepsIn (paperWalk a) ≤ length r′ = room (stepsIn (paperWalk a)) (restsOf os) r′ r (length-map os (λ (o : Out). o .rests) ∙ n) (ap (λ (x : Lists). x .rests) (k .lent)) er in
       record { temperatures = ft; rests = fr; looks = omega arith }
 
   steps-shown : Searched (outsOf told) → (layout : Layout) → shown layout 1 (stepsIn (paperWalk a)) t′ r′ l′ ≡ stepsText layout 1 (outsOf told)
   steps-shown searched layout =
       let os = outsOf told in
-      rw (k .answer, k .temperatures, k .rests, k .looks, steps-in told)
+      rw (k .answer, ap (λ (x : Lists). x .temperatures) (k .lent), ap (λ (x : Lists). x .rests) (k .lent), ap (λ (x : Lists). x .looks) (k .lent), steps-in told)
       (shown-outs layout searched 1 (drop (length (temperaturesOf os)) t) (drop (length (restsOf os)) r) (drop (length (looksOf os)) l))
 
   pub walk-shown : Searched (outsOf told) → (layout : Layout) → walkShown layout (paperWalk a) t′ r′ l′ ≡ layoutText layout told
@@ -168,8 +168,8 @@ unfolding walked
 walks-accepted {s} ch mk numbers ok =
     sym (past-sheet (startLines document01 ch mk (length numbers) 64 64 704) (run document01 s (startState ch mk) (stepsOf (length numbers / width) numbers)) ok)
 
-pub walks-refused : (x : Refusal) (t r : List ℤ) (l : List ℕ) → Walks (refused x) t r l (Refused x) t r l
-walks-refused x t r l = record { answer = refl; temperatures = refl; rests = refl; looks = refl }
+pub walks-refused : (x : Refusal) (lent : Lists) → Walks (refused x) lent (Refused x) lent
+walks-refused x lent = record { answer = refl; lent = refl }
 
 -- ---- the numbers of a line
 module _ (d : ℤ) where

@@ -9,6 +9,7 @@ ghost use Prim.Native.Nat.{_≤_};
 ghost use lib.ListN.{length};
 ghost use Rattle.text.specs.Put.{Put};
 ghost use Rattle.fields.specs.Fields.{fieldsFrom};
+ghost use Rattle.walk.specs.Lists.{lists};
 ghost use Rattle.walk.specs.Walk.{paperWalk, Walks};
 ghost use Rattle.wording.specs.Texts.{used};
 ghost use Rattle.console.specs.Walks.{walkTold, inLine, onPage, stepText, refusedLine, endText, walkRequest};
@@ -189,7 +190,9 @@ fn walk_held(
     sheet: &[u32],
 ) -> WalkAnswer
     requires { ⌜ Judged verdict (now sheet) × (length (now temperatures) ≡ 64) × (length (now rests) ≡ 64) × (length (now looks) ≡ 704) ⌝ }
-    ensures { λ r. ⌜ Walks (walkTold verdict (now (sheet .entry)) charge (t .0) (now (steps .entry))) (now (temperatures .entry)) (now (rests .entry)) (now (looks .entry)) r (now (temperatures .exit)) (now (rests .exit)) (now (looks .exit)) ⌝ }
+    ensures { λ r. ⌜ Walks (walkTold verdict (now (sheet .entry)) charge (t .0) (now (steps .entry)))
+        (lists (now (temperatures .entry)) (now (rests .entry)) (now (looks .entry))) r
+        (lists (now (temperatures .exit)) (now (rests .exit)) (now (looks .exit))) ⌝ }
 {
     match verdict {
         SheetAnswer::Good => {

@@ -16,7 +16,7 @@ use Rattle.walk.specs.declared.WalkAnswer.{WalkAnswer}
 use Rattle.walk.specs.declared.stepping.Standing.{Standing}
 use Rattle.walk.specs.declared.stepping.Stepped.{Stepped}
 use Rattle.walk.specs.declared.stepping.Stepped.the-variants.{Done, Refused}
-use Rattle.walk.specs.Lists.{laid}
+use Rattle.walk.specs.Lists.{lists, laid}
 use Rattle.walk.specs.declared.Step.{Step}
 use Rattle.walk.specs.Step.{State, Out, judge}
 use Rattle.walk.specs.Walk.{stepAt, stepsOf, run, onward, Trace, ended, cut, more, courseOf, paperWalk, Walks, temperaturesOf, restsOf, looksOf}
@@ -174,17 +174,17 @@ module _ (s : List ℕ) (start : State) (n : ℕ) (numbers t₀ r₀ : List ℤ)
 
     pub halted : (p : Step) → p ≡ stepNo numbers i → (a : Stepped) (ys : List ℕ) (k : ℕ) (b : WalkAnswer) → a ≡ Refused k → paperWalk b ≡ gives (courseOf i (cut k (stateOf st))) →
         StepGives (judge document01 s (stateOf st) p) s (take (length l - 11 * i) (drop (11 * i) l)) a ys →
-        Walks (gives (run document01 s start (stepsOf n numbers))) t₀ r₀ l₀ b t r (take (11 * i) l ++ (ys ++ drop (length l - 11 * i) (drop (11 * i) l)))
+        Walks (gives (run document01 s start (stepsOf n numbers))) (lists t₀ r₀ l₀) b (lists t r (take (11 * i) l ++ (ys ++ drop (length l - 11 * i) (drop (11 * i) l))))
     halted p g a ys k b e q w1 =
         let w = was-refused j k ys (rw (g, e) at w1) in
         let os = f .outs in
         let u : take (11 * i) l ++ (ys ++ drop (length l - 11 * i) (drop (11 * i) l)) ≡ l = back-laid (11 * i) l [] ys (w .1) ∙ take-append-drop (11 * i) l in
         let v : run document01 s start (stepsOf n numbers) ≡ record { outs = os; end = cut k (stateOf st) } =
         f .ran ∙ ap (ahead os) (turn ∙ w .0 (stateOf st) _) ∙ ap (λ (x : List Out). record { outs = x; end = cut k (stateOf st) }) (append-nil os) in
-        rw (u, v) (record { answer = q ∙ ap (λ (m : ℕ). gives (courseOf m (cut k (stateOf st)))) (sym (f .count)); temperatures = f .temperatures; rests = f .rests; looks = f .looks })
+        rw (u, v) (record { answer = q ∙ ap (λ (m : ℕ). gives (courseOf m (cut k (stateOf st)))) (sym (f .count)); lent = rw (f .temperatures, f .rests, f .looks) refl })
 
   pub finish : (t r : List ℤ) (l : List ℕ) (st : Standing) (i : ℕ) (b : WalkAnswer) → Sofar t r l st i → n ≤ i → paperWalk b ≡ gives (courseOf n (ended (stateOf st))) →
-      Walks (gives (run document01 s start (stepsOf n numbers))) t₀ r₀ l₀ b t r l
+      Walks (gives (run document01 s start (stepsOf n numbers))) (lists t₀ r₀ l₀) b (lists t r l)
   unfolding run stepsOf
   finish t r l st i b f h q =
       let os = f .outs in
@@ -192,4 +192,4 @@ module _ (s : List ℕ) (start : State) (n : ℕ) (numbers t₀ r₀ : List ℤ)
       let e : n ≡ length os = omega arith in
       let w : run document01 s start (stepsOf n numbers) ≡ record { outs = os; end = ended (stateOf st) } =
       f .ran ∙ ap (λ (k : ℕ). ahead os (run document01 s (stateOf st) (stepsOf k (drop (4 * i) numbers)))) z ∙ ap (λ (x : List Out). record { outs = x; end = ended (stateOf st) }) (append-nil os) in
-      rw w (record { answer = q ∙ ap (λ (m : ℕ). gives (courseOf m (ended (stateOf st)))) e; temperatures = f .temperatures; rests = f .rests; looks = f .looks })
+      rw w (record { answer = q ∙ ap (λ (m : ℕ). gives (courseOf m (ended (stateOf st)))) e; lent = rw (f .temperatures, f .rests, f .looks) refl })

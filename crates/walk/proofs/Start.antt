@@ -28,16 +28,17 @@ use Rattle.gas.specs.Answers.{chargeLines, temperatureLines}
 use Rattle.walk.specs.declared.WalkAnswer.{WalkAnswer}
 use Rattle.walk.specs.declared.WalkAnswer.the-variants.{Refused}
 use Rattle.walk.specs.declared.stepping.Standing.{Standing}
+use Rattle.walk.specs.Lists.{Lists}
 use Rattle.walk.specs.Walk.{Trace, run, stepsOf, wrongSteps, shortLists, startLines, startState, walked, Walks}
 use Rattle.walk.specs.Work.{stateOf, Begun}
 
 -- a refused start writes nothing
-pub start-refused : {told : Told Trace} (r : Refusal) (t q : List ℤ) (l : List ℕ) → told ≡ refused r → Walks told t q l (Refused r) t q l
-start-refused r t q l e = rw e (record { answer = refl; temperatures = refl; rests = refl; looks = refl })
+pub start-refused : {told : Told Trace} (r : Refusal) (lent : Lists) → told ≡ refused r → Walks told lent (Refused r) lent
+start-refused r lent e = rw e (record { answer = refl; lent = refl })
 
 -- a walk that tells the same is the same
-pub walks-as : {x y : Told Trace} {t q t′ q′ : List ℤ} {l l′ : List ℕ} {a : WalkAnswer} → x ≡ y → Walks x t q l a t′ q′ l′ → Walks y t q l a t′ q′ l′
-walks-as {t} {q} {t′} {q′} {l} {l′} {a} e h = subst (λ (x : Told Trace). Walks x t q l a t′ q′ l′) e h
+pub walks-as : {x y : Told Trace} {before after : Lists} {a : WalkAnswer} → x ≡ y → Walks x before a after → Walks y before a after
+walks-as {before} {after} {a} e h = subst (λ (x : Told Trace). Walks x before a after) e h
 
 -- a list of steps that is right has at most 64
 pub few-steps : (n : ℕ) → wrongSteps n ≡ false → n / 4 ≤ 64

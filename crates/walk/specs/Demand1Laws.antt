@@ -19,7 +19,8 @@ use Rattle.air.specs.Inverse.{unreached}
 use Rattle.walk.specs.declared.WalkAnswer.{WalkAnswer}
 use Rattle.walk.specs.declared.Step.{Step}
 use Rattle.walk.specs.Step.{State, Asked, Out, held, askLines, askedOf, asked, outOf, sought, judge, stepOrder}
-use Rattle.walk.specs.Walk.{Trace, End, ended, cut, more, onward, run, noStep, StoppedAt, FirstRefused, width, stepsOf, startLines, startState, walked, Course, done, stopped, chargeOf, courseOf, course, paperWalk, Walks}
+use Rattle.walk.specs.Lists.{Lists}
+use Rattle.walk.specs.Walk.{Trace, End, ended, cut, more, onward, run, noStep, StoppedAt, FirstRefused, width, stepsOf, startLines, startState, walked, walkedInto, Course, done, stopped, chargeOf, courseOf, course, paperWalk, Walks}
 
 -- ---- a step
 module _ (w : Weights) (s : List ℕ) (st : State) (p : Step) where
@@ -137,10 +138,10 @@ course-first : (ls : List Line) (t : Trace) → course (first ls t) ≡ first ls
 course-first [] t = refl
 course-first (l ∷ ls) t = by-bool (condition l) (λ h. rw h refl) (λ h. rw h (course-first ls t))
 
-module _ (lines : List Line) (w : Weights) (s : List ℕ) (start : Charge) (from : ℤ) (numbers : List ℤ) {t r : List ℤ} {l : List ℕ} {a : WalkAnswer} {t′ r′ : List ℤ} {l′ : List ℕ}
-    (h : Walks (walked lines w s start from numbers (length t) (length r) (length l)) t r l a t′ r′ l′) where
+module _ (lines : List Line) (w : Weights) (s : List ℕ) (start : Charge) (from : ℤ) (numbers : List ℤ) {before : Lists} {a : WalkAnswer} {after : Lists}
+    (h : Walks (walkedInto before lines w s start from numbers) before a after) where
   abbrev order : List Line
-  order = lines ++ startLines w start from (length numbers) (length t) (length r) (length l)
+  order = lines ++ startLines w start from (length numbers) (length (before .temperatures)) (length (before .rests)) (length (before .looks))
 
   abbrev steps : List Step
   steps = stepsOf (length numbers / width) numbers

@@ -26,10 +26,10 @@ use Rattle.gas.specs.BurningLaws.{limits-of, document01-sound}
 use Rattle.gas.specs.HeatLaws.{gas-rises}
 use Rattle.gas.specs.Heat.{gasHeat}
 use Rattle.walk.specs.declared.WalkAnswer.{WalkAnswer}
-use Rattle.walk.specs.Lists.{laid}
+use Rattle.walk.specs.Lists.{Lists, laid}
 use Rattle.walk.specs.declared.Step.{Step}
 use Rattle.walk.specs.Step.{State, Asked, Out, held, added, newGas, askedOf, outOf}
-use Rattle.walk.specs.Walk.{Trace, End, ended, cut, run, noStep, width, stepsOf, startLines, startState, walked, courseOf, course, chargeOf, paperWalk, outsOf, temperaturesOf, restsOf, looksOf, Walks}
+use Rattle.walk.specs.Walk.{Trace, End, ended, cut, run, noStep, width, stepsOf, startLines, startState, walked, walkedInto, courseOf, course, chargeOf, paperWalk, temperaturesOf, restsOf, looksOf, filled, Walks, WalkPromise}
 use Rattle.walk.specs.Ledger.{total, ledger, dearest, sumOf, lastOf}
 use Rattle.walk.specs.RunLaws.{StepDone, step-done, of-run}
 use Rattle.walk.specs.LedgerLaws.{AllClimb, dearests, run-balances, gas-after}
@@ -194,29 +194,26 @@ began c (gives T) h = (T, refl)
 began (done n ch t) (refused r) h = absurd (let z : _≡_ {A = ℕ} 0 1 = cc in omega arith)
 began (stopped n j ch t) (refused r) h = absurd (let z : _≡_ {A = ℕ} 0 1 = cc in omega arith)
 
-module _ (w : Weights) (s : List ℕ) (climb : AllClimb w s) (lines : List Line) (start : Charge) (from : ℤ) (numbers : List ℤ) (t r : List ℤ) (l : List ℕ) where
+module _ (w : Weights) (s : List ℕ) (climb : AllClimb w s) (lines : List Line) (start : Charge) (from : ℤ) (numbers : List ℤ) (before : Lists) where
   abbrev steps : List Step
   steps = stepsOf (length numbers / width) numbers
 
   abbrev told : Told Trace
-  told = walked lines w s start from numbers (length t) (length r) (length l)
+  told = walkedInto before lines w s start from numbers
 
   -- a walk that began is its run
   its-run : (T : Trace) → told ≡ gives T → run w s (startState start from) steps ≡ T
   unfolding walked
-  its-run T e = gives-clear (lines ++ startLines w start from (length numbers) (length t) (length r) (length l)) {a = run w s (startState start from) steps} {b = T} e .1
+  its-run T e = gives-clear (lines ++ startLines w start from (length numbers) (length (before .temperatures)) (length (before .rests)) (length (before .looks))) {a = run w s (startState start from) steps} {b = T} e .1
 
-  demand-3-climbing : (a : WalkAnswer) (t′ r′ : List ℤ) (l′ : List ℕ) (n : ℕ) (ch : Charge) (mk : ℤ) → Walks told t r l a t′ r′ l′ → CameBack a n ch mk
-      → Demand3 w s (startState start from) (take n steps) n ch mk t′ r′ l′
-  demand-3-climbing a t′ r′ l′ n ch mk h c =
+  demand-3-climbing : (a : WalkAnswer) (after : Lists) (n : ℕ) (ch : Charge) (mk : ℤ) → Walks told before a after → CameBack a n ch mk
+      → Demand3 w s (startState start from) (take n steps) n ch mk (after .temperatures) (after .rests) (after .looks)
+  demand-3-climbing a after n ch mk h c =
       let T = run w s (startState start from) steps in
       let b = began c told (h .answer) in
       let e : told ≡ gives T = b .1 ∙ ap gives (sym (its-run (b .0) (b .1))) in
       let k = came-back c (length (T .outs)) (T .end) (h .answer ∙ ap course e) in
-      let x : t′ ≡ laid (temperaturesOf (T .outs)) t = h .temperatures ∙ ap (λ (o : Told Trace). laid (temperaturesOf (outsOf o)) t) e in
-      let y : r′ ≡ laid (restsOf (T .outs)) r = h .rests ∙ ap (λ (o : Told Trace). laid (restsOf (outsOf o)) r) e in
-      let z : l′ ≡ laid (looksOf (T .outs)) l = h .looks ∙ ap (λ (o : Told Trace). laid (looksOf (outsOf o)) l) e in
-      rw (x, y, z, k .0, k .1, k .2) (run-demand-3 w s climb (startState start from) steps t r l)
+      rw (h .lent ∙ ap (λ (o : Told Trace). filled o before) e, k .0, k .1, k .2) (run-demand-3 w s climb (startState start from) steps (before .temperatures) (before .rests) (before .looks))
 
 -- ---- and of every outcome of a walk: one that began has an accepted sheet, on which the heat of every gas that burns rises
 pub all-climb : (w : Weights) → Sound w → {s : List ℕ} → Accepted s → AllClimb w s
@@ -224,26 +221,26 @@ all-climb w so ok st p o d =
     let b = neither (ltZ (p .hydrogen) (pos 0)) (beyond w (added (st .gas) p)) (neither (ltZ (p .carbon) (pos 0)) _ (d .atoms) .1) .1 in
     gas-rises w so ok (newGas (st .gas) p) (record { limits = limits-of w (added (st .gas) p) b; is-lean = d .burns }) 200000 (omega arith) (omega arith)
 
-module _ (w : Weights) (so : Sound w) (s : List ℕ) (start : Charge) (from : ℤ) (numbers : List ℤ) (t r : List ℤ) (l : List ℕ) where
-  began-accepted : (T : Trace) → walked (sheetLines s) w s start from numbers (length t) (length r) (length l) ≡ gives T → Accepted s
+module _ (w : Weights) (so : Sound w) (s : List ℕ) (start : Charge) (from : ℤ) (numbers : List ℤ) (before : Lists) where
+  began-accepted : (T : Trace) → walkedInto before (sheetLines s) w s start from numbers ≡ gives T → Accepted s
   unfolding walked
   began-accepted T e =
-      let c = gives-clear (sheetLines s ++ startLines w start from (length numbers) (length t) (length r) (length l)) {a = run w s (startState start from) (stepsOf (length numbers / width) numbers)} {b = T} e .0 in
+      let c = gives-clear (sheetLines s ++ startLines w start from (length numbers) (length (before .temperatures)) (length (before .rests)) (length (before .looks))) {a = run w s (startState start from) (stepsOf (length numbers / width) numbers)} {b = T} e .0 in
       accepted-of-told s (values-given tt (sheet-clear c))
     where
-      sheet-clear : Clear (sheetLines s ++ startLines w start from (length numbers) (length t) (length r) (length l)) → Clear (sheetLines s)
+      sheet-clear : Clear (sheetLines s ++ startLines w start from (length numbers) (length (before .temperatures)) (length (before .rests)) (length (before .looks))) → Clear (sheetLines s)
       sheet-clear (clear x (clear y c)) = clear x (clear y nothing)
 
   -- DEMAND 3: for every outcome that meets the promise of `walk` with n steps done, by the charge and temperature that came back and the lists as they are on return
-  pub demand-3 : (a : WalkAnswer) (t′ r′ : List ℤ) (l′ : List ℕ) (n : ℕ) (ch : Charge) (mk : ℤ)
-      → Walks (walked (sheetLines s) w s start from numbers (length t) (length r) (length l)) t r l a t′ r′ l′ → CameBack a n ch mk
-      → Demand3 w s (startState start from) (take n (stepsOf (length numbers / width) numbers)) n ch mk t′ r′ l′
-  demand-3 a t′ r′ l′ n ch mk h c =
-      let b = began c (walked (sheetLines s) w s start from numbers (length t) (length r) (length l)) (h .answer) in
-      demand-3-climbing w s (all-climb w so (began-accepted (b .0) (b .1))) (sheetLines s) start from numbers t r l a t′ r′ l′ n ch mk h c
+  pub demand-3 : (a : WalkAnswer) (after : Lists) (n : ℕ) (ch : Charge) (mk : ℤ)
+      → Walks (walkedInto before (sheetLines s) w s start from numbers) before a after → CameBack a n ch mk
+      → Demand3 w s (startState start from) (take n (stepsOf (length numbers / width) numbers)) n ch mk (after .temperatures) (after .rests) (after .looks)
+  demand-3 a after n ch mk h c =
+      let b = began c (walkedInto before (sheetLines s) w s start from numbers) (h .answer) in
+      demand-3-climbing w s (all-climb w so (began-accepted (b .0) (b .1))) (sheetLines s) start from numbers before a after n ch mk h c
 
 -- at document 01's weights nothing is left to suppose
-pub demand-3-document01 : (s : List ℕ) (start : Charge) (from : ℤ) (numbers : List ℤ) (t r : List ℤ) (l : List ℕ) (a : WalkAnswer) (t′ r′ : List ℤ) (l′ : List ℕ) (n : ℕ) (ch : Charge) (mk : ℤ)
-    → Walks (walked (sheetLines s) document01 s start from numbers (length t) (length r) (length l)) t r l a t′ r′ l′ → CameBack a n ch mk
-    → Demand3 document01 s (startState start from) (take n (stepsOf (length numbers / width) numbers)) n ch mk t′ r′ l′
+pub demand-3-document01 : (s : List ℕ) (start : Charge) (from : ℤ) (numbers : List ℤ) (before : Lists) (a : WalkAnswer) (after : Lists) (n : ℕ) (ch : Charge) (mk : ℤ)
+    → WalkPromise (sheetLines s) s start from numbers before a after → CameBack a n ch mk
+    → Demand3 document01 s (startState start from) (take n (stepsOf (length numbers / width) numbers)) n ch mk (after .temperatures) (after .rests) (after .looks)
 demand-3-document01 = demand-3 document01 document01-sound

@@ -32,8 +32,8 @@ use Rattle.walk.specs.declared.Step.{Step}
 use Rattle.walk.specs.declared.WalkAnswer.{WalkAnswer}
 use Rattle.walk.specs.declared.WalkAnswer.the-variants.{Stopped, Refused}
 use Rattle.walk.specs.Step.{Out, held, burnHeat, stepHeat, asked, sought, judge}
-use Rattle.walk.specs.Walk.{Trace, ended, run, stepsOf, startLines, walked, course, paperWalk, done, outsOf, temperaturesOf, restsOf, looksOf, Walks}
-use Rattle.walk.specs.Lists.{laid}
+use Rattle.walk.specs.Walk.{Trace, ended, run, stepsOf, startLines, walked, course, paperWalk, done, filled, Walks, WalkPromise}
+use Rattle.walk.specs.Lists.{Lists, lists, laid}
 use Rattle.walk.specs.Ledger.{ledger}
 use Rattle.walk.specs.LedgerLaws.{run-balances}
 use Rattle.walk.specs.Demand3Laws.{all-climb}
@@ -144,41 +144,44 @@ module _ {s : List ℕ} (ok : Accepted s) (t r : List ℤ) (l : List ℕ) (ft : 
     pub rests : r′ ≡ pos 1 ∷ pos 0 ∷ drop 2 r
     pub looks-are : l′ ≡ eleven (tenLooks ok) ++ eleven (tenLooks ok) ++ drop 22 l
 
-  pub printed-walk : (a : WalkAnswer) (t′ r′ : List ℤ) (l′ : List ℕ) → Walks told t r l a t′ r′ l′ → Printed a t′ r′ l′
+  pub printed-walk : (a : WalkAnswer) (t′ r′ : List ℤ) (l′ : List ℕ) → Walks told (lists t r l) a (lists t′ r′ l′) → Printed a t′ r′ l′
   unfolding eleven
   printed-walk a t′ r′ l′ w = record {
     answer = w .answer ∙ ap course told-printed;
-    temperatures = w .temperatures ∙ ap (λ (x : Told Trace). laid (temperaturesOf (outsOf x)) t) told-printed;
-    rests = w .rests ∙ ap (λ (x : Told Trace). laid (restsOf (outsOf x)) r) told-printed;
-    looks-are = w .looks ∙ ap (λ (x : Told Trace). laid (looksOf (outsOf x)) l) told-printed ∙ ap₂ (λ (x y : List ℕ). laid (eleven x ++ (eleven y ++ [])) l) (first-looks ok) (second-looks ok);
+    temperatures = ap (λ (x : Lists). x .temperatures) now-filled;
+    rests = ap (λ (x : Lists). x .rests) now-filled;
+    looks-are = ap (λ (x : Lists). x .looks) now-filled ∙ ap₂ (λ (x y : List ℕ). laid (eleven x ++ (eleven y ++ [])) l) (first-looks ok) (second-looks ok);
   }
+    where
+      now-filled : lists t′ r′ l′ ≡ filled (gives (record { outs = outAt s 1200000001 ∷ outAt s 1202400000 ∷ []; end = ended (record { gas = one; mk = 200501 }) })) (lists t r l)
+      now-filled = w .lent ∙ ap (λ (x : Told Trace). filled x (lists t r l)) told-printed
 
   -- ---- the fakes: no outcome of their kind meets the promise here
   -- it refuses everything: the start, with whatever number, or the first step
-  pub no-refusing-all : (a : WalkAnswer) → RefusesAll a → (t′ r′ : List ℤ) (l′ : List ℕ) → Walks told t r l a t′ r′ l′ → ⊥
+  pub no-refusing-all : (a : WalkAnswer) → RefusesAll a → (t′ r′ : List ℤ) (l′ : List ℕ) → Walks told (lists t r l) a (lists t′ r′ l′) → ⊥
   no-refusing-all a (at-start r) t′ r′ l′ w = let e = printed-walk (Refused r) t′ r′ l′ w .answer in let z : _≡_ {A = ℕ} 0 1 = cc in omega arith
   no-refusing-all a (at-once n ch mk) t′ r′ l′ w = let e = printed-walk (Stopped 0 n ch mk) t′ r′ l′ w .answer in let z : _≡_ {A = ℕ} 0 1 = cc in omega arith
 
-  first-temperature : (a : WalkAnswer) (x : ℤ) (t′ r′ : List ℤ) (l′ : List ℕ) → Walks told t r l a (x ∷ t′) r′ l′ → x ≡ pos 200500
+  first-temperature : (a : WalkAnswer) (x : ℤ) (t′ r′ : List ℤ) (l′ : List ℕ) → Walks told (lists t r l) a (lists (x ∷ t′) r′ l′) → x ≡ pos 200500
   first-temperature a x t′ r′ l′ w = let e = printed-walk a (x ∷ t′) r′ l′ w .temperatures in cc
 
   -- it answers 200,000 always, which is the start's temperature too
-  pub no-constant : (a : WalkAnswer) (t′ r′ : List ℤ) (l′ : List ℕ) → Walks told t r l a (pos 200000 ∷ t′) r′ l′ → ⊥
+  pub no-constant : (a : WalkAnswer) (t′ r′ : List ℤ) (l′ : List ℕ) → Walks told (lists t r l) a (lists (pos 200000 ∷ t′) r′ l′) → ⊥
   no-constant a t′ r′ l′ w = let e = ap up (first-temperature a (pos 200000) t′ r′ l′ w) in omega arith
 
   -- it computes step 1 and repeats it
-  pub no-repeating : (a : WalkAnswer) (x : ℤ) (t′ r′ : List ℤ) (l′ : List ℕ) → Walks told t r l a (x ∷ x ∷ t′) r′ l′ → ⊥
+  pub no-repeating : (a : WalkAnswer) (x : ℤ) (t′ r′ : List ℤ) (l′ : List ℕ) → Walks told (lists t r l) a (lists (x ∷ x ∷ t′) r′ l′) → ⊥
   no-repeating a x t′ r′ l′ w = let e = printed-walk a (x ∷ x ∷ t′) r′ l′ w .temperatures in let p : x ≡ pos 200500 = cc in let q : x ≡ pos 200501 = cc in let z = ap up (sym p ∙ q) in omega arith
 
 -- it writes nothing: lists of zeros would stay
 pub no-writing-nothing : {s : List ℕ} (ok : Accepted s) (a : WalkAnswer) (r r′ : List ℤ) (l l′ : List ℕ) (fr : 2 ≤ length r) (fl : 22 ≤ length l)
-    → Walks (walked (sheetLines s) document01 s (charge 1 0 0) (pos 200000) printedSteps 2 (length r) (length l)) (pos 0 ∷ pos 0 ∷ []) r l a (pos 0 ∷ pos 0 ∷ []) r′ l′ → ⊥
+    → WalkPromise (sheetLines s) s (charge 1 0 0) (pos 200000) printedSteps (lists (pos 0 ∷ pos 0 ∷ []) r l) a (lists (pos 0 ∷ pos 0 ∷ []) r′ l′) → ⊥
 no-writing-nothing ok a r r′ l l′ fr fl w =
     let e = ap up (first-temperature ok (pos 0 ∷ pos 0 ∷ []) r l (lit≤ tt) fr fl a (pos 0) (pos 0 ∷ []) r′ l′ w) in omega arith
 
 -- it invents a number of looks: whatever the first eleven places would hold other than the ten looks and a 0
 pub no-invented-looks : {s : List ℕ} (ok : Accepted s) (a : WalkAnswer) (t r t′ r′ : List ℤ) (l l′ : List ℕ) (ft : 2 ≤ length t) (fr : 2 ≤ length r) (fl : 22 ≤ length l)
-    → Walks (walked (sheetLines s) document01 s (charge 1 0 0) (pos 200000) printedSteps (length t) (length r) (length l)) t r l a t′ r′ l′
+    → WalkPromise (sheetLines s) s (charge 1 0 0) (pos 200000) printedSteps (lists t r l) a (lists t′ r′ l′)
     → (places : List ℕ) → (places ≡ tenLooks ok ++ 0 ∷ [] → ⊥) → take 11 l′ ≡ places → ⊥
 unfolding eleven
 no-invented-looks ok a t r t′ r′ l l′ ft fr fl w places other e = other (sym e ∙ ap (take 11) (printed-walk ok t r l ft fr fl a t′ r′ l′ w .looks-are))

@@ -12,11 +12,11 @@ use Rattle.refusal.specs.Refusals.{Told, gives, refused, Line, _when_, first, l
 use Rattle.air.specs.Halving.{eleven}
 use Rattle.gas.specs.declared.Charge.{Charge}
 use Rattle.gas.specs.declared.Gas.{Gas}
-use Rattle.gas.specs.Burning.{Weights, gasOf}
+use Rattle.gas.specs.Burning.{Weights, document01, gasOf}
 use Rattle.gas.specs.Answers.{chargeLines, temperatureLines}
 use Rattle.walk.specs.declared.WalkAnswer.{WalkAnswer}
 use Rattle.walk.specs.declared.WalkAnswer.the-variants.{Done, Stopped, Refused}
-use Rattle.walk.specs.Lists.{laid}
+use Rattle.walk.specs.Lists.{Lists, lists, laid}
 use Rattle.walk.specs.declared.Step.{Step}
 use Rattle.walk.specs.Step.{State, Out, judge, stepOrder}
 
@@ -97,6 +97,10 @@ unfoldable pub walked : List Line → Weights → List ℕ → Charge → ℤ �
 walked lines w s ch mk numbers temperatures rests looks =
     first (lines ++ startLines w ch mk (length numbers) temperatures rests looks) (run w s (startState ch mk) (stepsOf (length numbers / width) numbers))
 
+-- the same with these lists lent
+abbrev pub walkedInto : Lists → List Line → Weights → List ℕ → Charge → ℤ → List ℤ → Told Trace
+walkedInto lent lines w s ch mk numbers = walked lines w s ch mk numbers (length (lent .temperatures)) (length (lent .rests)) (length (lent .looks))
+
 -- ---- what comes back
 -- a walk done to the end: the number of steps, the last charge and temperature; a refused step: the number of steps done, the number, and the charge and temperature before it
 pub data Course : Type 0 where
@@ -137,9 +141,19 @@ abbrev pub looksOf : List Out → List ℕ
 looksOf [] = []
 looksOf (o ∷ os) = eleven (o .seen) ++ looksOf os
 
--- the whole of a walk: what it tells, and the three lent lists on return
-pub record Walks (told : Told Trace) (t r : List ℤ) (l : List ℕ) (a : WalkAnswer) (t′ r′ : List ℤ) (l′ : List ℕ) : Type 0 where
+-- the three lent lists on return: what the steps done give, in their first places
+abbrev pub filled : Told Trace → Lists → Lists
+filled told lent =
+    lists
+    (laid (temperaturesOf (outsOf told)) (lent .temperatures))
+    (laid (restsOf (outsOf told)) (lent .rests))
+    (laid (looksOf (outsOf told)) (lent .looks))
+
+-- the whole of a walk: what it tells, and the three lent lists before and on return
+pub record Walks (told : Told Trace) (before : Lists) (a : WalkAnswer) (after : Lists) : Type 0 where
   pub answer : paperWalk a ≡ course told
-  pub temperatures : t′ ≡ laid (temperaturesOf (outsOf told)) t
-  pub rests : r′ ≡ laid (restsOf (outsOf told)) r
-  pub looks : l′ ≡ laid (looksOf (outsOf told)) l
+  pub lent : after ≡ filled told before
+
+-- what a walk promises: past these lines, over this sheet, with document 01's weights
+abbrev pub WalkPromise : List Line → List ℕ → Charge → ℤ → List ℤ → Lists → WalkAnswer → Lists → Type 0
+WalkPromise lines s ch mk numbers before a after = Walks (walkedInto before lines document01 s ch mk numbers) before a after

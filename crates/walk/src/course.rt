@@ -17,6 +17,7 @@ ghost use Rattle.rows.specs.Rows.{rowsH};
 ghost use Rattle.refusal.specs.Refusals.{gives};
 ghost use Rattle.sheet.specs.Sheet.{Accepted};
 ghost use Rattle.gas.specs.Burning.{document01, Limits, Burns};
+ghost use Rattle.walk.specs.Lists.{lists};
 ghost use Rattle.walk.specs.Walk.{chargeOf, ended, cut, courseOf, paperWalk, run, stepsOf, Walks};
 ghost use Rattle.walk.specs.Work.{stateOf, Stands, Begun, stepNo};
 
@@ -92,7 +93,9 @@ pub(crate) fn go(
 ) -> WalkAnswer
     requires { ⌜ Stands (now sheet) start × Accepted (now sheet) × (now air ≡ rowsH) ⌝ }
     requires { ⌜ (n ≤ 64) × (4 * n ≤ length (now steps)) × (n ≤ length (now temperatures)) × (n ≤ length (now rests)) × (11 * n ≤ length (now looks)) ⌝ }
-    ensures { λ r. ⌜ Walks (gives (run document01 (now (sheet .entry)) (stateOf start) (stepsOf n (now (steps .entry))))) (now (temperatures .entry)) (now (rests .entry)) (now (looks .entry)) r (now (temperatures .exit)) (now (rests .exit)) (now (looks .exit)) ⌝ }
+    ensures { λ r. ⌜ Walks (gives (run document01 (now (sheet .entry)) (stateOf start) (stepsOf n (now (steps .entry)))))
+        (lists (now (temperatures .entry)) (now (rests .entry)) (now (looks .entry))) r
+        (lists (now (temperatures .exit)) (now (rests .exit)) (now (looks .exit))) ⌝ }
 {
     let mut st = start;
     let mut i: usize = 0;

@@ -8,11 +8,10 @@ use refusal::Refusal;
 ghost use mathlib.Core.Path.{_≡_};
 ghost use mathlib.Core.List.{[]};
 ghost use Prim.Native.Nat.{_≤_};
-ghost use lib.ListN.{length};
 ghost use Rattle.rows.specs.Rows.{rowsH};
 ghost use Rattle.sheet.specs.Sheet.{Accepted};
-ghost use Rattle.gas.specs.Burning.{document01};
-ghost use Rattle.walk.specs.Walk.{wrongSteps, shortLists, walked, Walks};
+ghost use Rattle.walk.specs.Lists.{lists};
+ghost use Rattle.walk.specs.Walk.{wrongSteps, shortLists, WalkPromise};
 
 // Whether a list of steps is no multiple of four numbers, or over 256.
 fn wrong_steps(numbers: usize) -> bool
@@ -50,7 +49,9 @@ pub fn walk_judged(
     air: &[u32; 1801],
 ) -> WalkAnswer
     requires { ⌜ Accepted (now sheet) × (now air ≡ rowsH) ⌝ }
-    ensures { λ r. ⌜ Walks (walked [] document01 (now (sheet .entry)) charge (t .0) (now (steps .entry)) (length (now (temperatures .entry))) (length (now (rests .entry))) (length (now (looks .entry)))) (now (temperatures .entry)) (now (rests .entry)) (now (looks .entry)) r (now (temperatures .exit)) (now (rests .exit)) (now (looks .exit)) ⌝ }
+    ensures { λ r. ⌜ WalkPromise [] (now (sheet .entry)) charge (t .0) (now (steps .entry))
+        (lists (now (temperatures .entry)) (now (rests .entry)) (now (looks .entry))) r
+        (lists (now (temperatures .exit)) (now (rests .exit)) (now (looks .exit))) ⌝ }
 {
     if wrong_steps(steps.len()) {
         return WalkAnswer::Refused(Refusal::Plain(crate::STEPS));

@@ -9,10 +9,9 @@ use air::Millikelvin;
 use gas::Charge;
 use refusal::Refusal;
 use sheet::SheetAnswer;
-ghost use lib.ListN.{length};
 ghost use Rattle.sheet.specs.Answers.{sheetLines};
-ghost use Rattle.gas.specs.Burning.{document01};
-ghost use Rattle.walk.specs.Walk.{walked, Walks};
+ghost use Rattle.walk.specs.Lists.{lists};
+ghost use Rattle.walk.specs.Walk.{WalkPromise};
 
 // A step: carbon added, hydrogen added, calorific value in hundredths of C.H.U./lb, plain heat q.
 pub struct Step {
@@ -44,7 +43,9 @@ pub fn walk(
     rests: &mut [i64],
     looks: &mut [u32],
 ) -> WalkAnswer
-    ensures { λ r. ⌜ Walks (walked (sheetLines (now (sheet .entry))) document01 (now (sheet .entry)) charge (t .0) (now (steps .entry)) (length (now (temperatures .entry))) (length (now (rests .entry))) (length (now (looks .entry)))) (now (temperatures .entry)) (now (rests .entry)) (now (looks .entry)) r (now (temperatures .exit)) (now (rests .exit)) (now (looks .exit)) ⌝ }
+    ensures { λ r. ⌜ WalkPromise (sheetLines (now (sheet .entry))) (now (sheet .entry)) charge (t .0) (now (steps .entry))
+        (lists (now (temperatures .entry)) (now (rests .entry)) (now (looks .entry))) r
+        (lists (now (temperatures .exit)) (now (rests .exit)) (now (looks .exit))) ⌝ }
 {
     let air = rows::columns::heat_column();
     match sheet::inner::judge(sheet, &air) {

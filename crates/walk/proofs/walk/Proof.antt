@@ -23,7 +23,7 @@ walk-judged-requires : tie.Need-walk-judged-requires
 walk-judged-requires c κs = (accepted-of-told _ (sym (c .before .before .before .before .before .before .judge .ensures) ∙ ap paper (c .before .before .before .before .enum-told .given .1)), c .before .before .before .before .before .before .before .before .heat-column .ensures)
 
 returns : tie.Need-returns
-returns c = let s = c .before .before .before .before .before .before .before .before in start-refused (c .before .r .given .0 .0) _ _ _ (sheet-refused (s .args .sheet .now) (s .args .charge) (s .args .t .0) (s .args .steps .now) (length (s .args .temperatures .now)) (length (s .args .rests .now)) (length (s .args .looks .now)) (c .before .r .given .0 .0) (sym (ap paper (c .before .r .given .1)) ∙ c .before .before .before .judge .ensures))
+returns c = let s = c .before .before .before .before .before .before .before .before in start-refused (c .before .r .given .0 .0) _ (sheet-refused (s .args .sheet .now) (s .args .charge) (s .args .t .0) (s .args .steps .now) (length (s .args .temperatures .now)) (length (s .args .rests .now)) (length (s .args .looks .now)) (c .before .r .given .0 .0) (sym (ap paper (c .before .r .given .1)) ∙ c .before .before .before .judge .ensures))
 
 same-length : tie.Need-same-length
 same-length c = search needs

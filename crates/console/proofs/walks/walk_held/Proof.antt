@@ -34,7 +34,7 @@ returns c =
     rw (c .before .before .before .before .before .before .before .before .before .before .enum-told .given .1) (rw (c .before .before .before .before .before .before .before .before .before .before .before .before .before .before .pre .1, c .before .before .before .before .before .before .before .before .before .before .before .before .before .before .pre .2, c .before .before .before .before .before .before .before .before .before .before .before .before .before .before .pre .3, walks-accepted (c .before .before .before .before .before .before .before .before .before .before .before .before .before .before .args .charge) ((c .before .before .before .before .before .before .before .before .before .before .before .before .before .before .args .t) .0) (c .before .before .before .before .before .before .before .before .before .before .before .before .before .before .args .steps .now) ok) at (c .before .before .before .before .walk-judged .ensures))
 
 returns-2 : tie.Need-returns-2
-returns-2 c = rw (c .before .verdict .given .1) (walks-refused _ _ _ _)
+returns-2 c = rw (c .before .verdict .given .1) (walks-refused _ _)
 
 pub walk-held-spec : {M : Type 1} → statement M
 walk-held-spec =

@@ -30,13 +30,13 @@ wrong-steps-requires : tie.Need-wrong-steps-requires
 wrong-steps-requires c κs = search needs
 
 returns : tie.Need-returns
-returns c = let s = c .before .before .before .before in start-refused (Plain 13) _ _ _ (told-13 (s .args .sheet .now) (s .args .charge) (s .args .t .0) (s .args .steps .now) (length (s .args .temperatures .now)) (length (s .args .rests .now)) (length (s .args .looks .now)) (sym (c .before .wrong-steps .ensures) ∙ c .if1 .taken))
+returns c = let s = c .before .before .before .before in start-refused (Plain 13) _ (told-13 (s .args .sheet .now) (s .args .charge) (s .args .t .0) (s .args .steps .now) (length (s .args .temperatures .now)) (length (s .args .rests .now)) (length (s .args .looks .now)) (sym (c .before .wrong-steps .ensures) ∙ c .if1 .taken))
 
 short-lists-requires : tie.Need-short-lists-requires
 short-lists-requires c κs = few-steps _ (sym (c .before .wrong-steps .ensures) ∙ c .if1 .left)
 
 returns-2 : tie.Need-returns-2
-returns-2 c = let s = c .before .before .before .before .before .before in start-refused (Plain 10) _ _ _ (told-10 (s .args .sheet .now) (s .args .charge) (s .args .t .0) (s .args .steps .now) (length (s .args .temperatures .now)) (length (s .args .rests .now)) (length (s .args .looks .now)) (right (c .before .before)) (sym (c .before .short-lists .ensures) ∙ c .if2 .taken))
+returns-2 c = let s = c .before .before .before .before .before .before in start-refused (Plain 10) _ (told-10 (s .args .sheet .now) (s .args .charge) (s .args .t .0) (s .args .steps .now) (length (s .args .temperatures .now)) (length (s .args .rests .now)) (length (s .args .looks .now)) (right (c .before .before)) (sym (c .before .short-lists .ensures) ∙ c .if2 .taken))
 
 admit-at-requires : tie.Need-admit-at-requires
 admit-at-requires c κs = search needs
@@ -57,7 +57,7 @@ go-requires c κs =
     ((c .before .before .before .begin .ensures .stands, s .pre .0, s .pre .1), (few-steps _ (right (c .before .before .before .before .before .before .before .before .before .before)), omega arith, l .long-t, l .long-r, l .long-l))
 
 returns-3 : tie.Need-returns-3
-returns-3 c = let s = c .before .before .before .before .before .before .before .before .before .before in start-refused (c .before .r .given .0 .0) _ _ _ (told-start (s .args .sheet .now) (s .args .charge) (s .args .t .0) (s .args .steps .now) (length (s .args .temperatures .now)) (length (s .args .rests .now)) (length (s .args .looks .now)) (right (c .before .before .before .before .before .before)) (room (c .before .before .before .before)) (c .before .r .given .0 .0) (sym (ap paperGas (c .before .r .given .1)) ∙ c .before .before .before .admit-at .ensures))
+returns-3 c = let s = c .before .before .before .before .before .before .before .before .before .before in start-refused (c .before .r .given .0 .0) _ (told-start (s .args .sheet .now) (s .args .charge) (s .args .t .0) (s .args .steps .now) (length (s .args .temperatures .now)) (length (s .args .rests .now)) (length (s .args .looks .now)) (right (c .before .before .before .before .before .before)) (room (c .before .before .before .before)) (c .before .r .given .0 .0) (sym (ap paperGas (c .before .r .given .1)) ∙ c .before .before .before .admit-at .ensures))
 
 same-length : tie.Need-same-length
 same-length c = search needs
