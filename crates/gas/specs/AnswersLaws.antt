@@ -1,19 +1,20 @@
 -- What an order of refusals that is clear says of the inputs, and the temperature of a heat past its lines. Assumes nothing.
-use borrow.Author.Tests.{not-false, ltb-false}
+use borrow.Author.Tests.{not-false, ltb-false, lt-ltb, le-ltb}
 use mathlib.Core.Path.{_≡_, refl, sym, ap, _∙_}
 use mathlib.Core.Bool.{true}
 use mathlib.Core.List.{List, [], _∷_, _++_}
-use Prim.Native.Nat.{ℕ, _≤_}
+use Prim.Native.Nat.{ℕ, _≤_, _<_}
 use lib.Dec.{ltb}
 use lib.IntN.{ℤ, pos}
 use Rattle.signed.specs.Zed.{inZ}
 use Rattle.refusal.specs.declared.Refusal.{Refusal}
-use Rattle.refusal.specs.Refusals.{gives, refused, Line, _when_, toldBy, first, First, Clear, none, clear}
+use Rattle.refusal.specs.declared.Refusal.the-variants.{Plain}
+use Rattle.refusal.specs.Refusals.{Told, gives, refused, Line, _when_, toldBy, first, First, Clear, none, clear}
 use Rattle.refusal.specs.RefusalsLaws.{refusal-given, values-given}
 use Rattle.air.specs.Inverse.{unreached, found}
 use Rattle.sheet.specs.Sheet.{Accepted}
 use Rattle.sheet.specs.Answers.{sheetLines}
-use Rattle.sheet.specs.AnswersLaws.{accepted-of-told}
+use Rattle.sheet.specs.AnswersLaws.{accepted-of-told, past-sheet}
 use Rattle.gas.specs.declared.Charge.{Charge}
 use Rattle.gas.specs.declared.Gas.{Gas}
 use Rattle.gas.specs.declared.TemperatureAnswer.{TemperatureAnswer}
@@ -63,6 +64,18 @@ searchable-of w ch s places e =
     let r = room-of places (clear-right (sheetLines s) (10 when ltb places 11 ∷ chargeLines w ch) c) in
     rw (← given (searchOrder w ch s places) (gasOf ch) e)
     (record { burns = burns-of w ch (r .1); accepted = accepted-of s (10 when ltb places 11 ∷ chargeLines w ch) c; room = r .0 })
+
+-- ---- a sheet that was judged adds no line: past it, 4, 5 and 6 of a heat, and 4 and 5 of a search with eleven places
+module _ {s : List ℕ} (accepted : Accepted s) (w : Weights) (ch : Charge) where
+  pub past-heat : (mk : ℤ) {t : Told Gas} → t ≡ first (chargeLines w ch ++ temperatureLines mk) (gasOf ch) → t ≡ first (heatOrder w ch mk s) (gasOf ch)
+  past-heat mk e = e ∙ sym (past-sheet (chargeLines w ch ++ temperatureLines mk) (gasOf ch) accepted)
+
+  pub past-search : (places : ℕ) {t : Told Gas} → 11 ≤ places → t ≡ first (chargeLines w ch) (gasOf ch) → t ≡ first (searchOrder w ch s places) (gasOf ch)
+  past-search places h e = e ∙ sym (past-sheet (10 when ltb places 11 ∷ chargeLines w ch) (gasOf ch) accepted ∙ rw (le-ltb places 11 h) refl)
+
+  -- and 10 of a search with fewer
+  pub short-search : (places : ℕ) → places < 11 → refused (Plain 10) ≡ first (searchOrder w ch s places) (gasOf ch)
+  short-search places h = sym (past-sheet (10 when ltb places 11 ∷ chargeLines w ch) (gasOf ch) accepted ∙ rw (lt-ltb places 11 h) refl)
 
 -- ---- the temperature of a heat
 module _ (v : ℕ → ℤ) (target : ℤ) (before : List ℕ) where

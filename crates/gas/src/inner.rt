@@ -1,8 +1,10 @@
-// The inner doors of gas, for the walk and the figures above: a charge tested in parts, and its heats and its search over a sheet that was judged once, with
-// the air column lent. The callers of those that require have tested it.
+// The inner doors of gas: a charge tested in parts, with its heats and its search past the tests, for the walk and the figures above; and what each entry tells past
+// the judge, for a program that keeps one sheet for many requests. The sheet was judged once, and the air column is lent.
 use crate::Charge;
 use crate::Gas;
 use crate::Heat;
+use crate::HeatAnswer;
+use crate::SpecificAnswer;
 use crate::TemperatureAnswer;
 use crate::burning;
 use crate::heats;
@@ -21,7 +23,7 @@ ghost use Rattle.refusal.specs.Refusals.{first};
 ghost use Rattle.sheet.specs.Sheet.{Accepted};
 ghost use Rattle.gas.specs.Burning.{document01, gasOf, beyond as Burning·beyond, Limits, lean as Burning·lean, Burns, fuelMass, totalMass};
 ghost use Rattle.gas.specs.Heat.{gasHeat, contentAbove15, specificContent};
-ghost use Rattle.gas.specs.Answers.{paperGas, chargeLines, temperatureLines, Inverse};
+ghost use Rattle.gas.specs.Answers.{paperGas, paperHeat, paperSpecific, chargeLines, temperatureLines, heatTold, contentTold, specificTold, Inverse, Temperature};
 
 // A charge that burns lean within its limits, or the refusal.
 pub enum Admitted {
@@ -156,4 +158,72 @@ pub fn find(
         return TemperatureAnswer::Refused(Refusal::Plain(air::ABOVE));
     }
     search::reached(target, last, looks, masses, sheet, air)
+}
+
+// The gas heat of a charge at a temperature, over a sheet that was judged: refusals 4, 5 and 6 tested.
+pub fn gas_heat_judged(
+    charge: Charge,
+    t: Millikelvin,
+    sheet: &[u32],
+    air: &[u32; 1801],
+) -> HeatAnswer
+    requires { ⌜ Accepted (now sheet) × (now air ≡ rowsH) ⌝ }
+    ensures { λ r. ⌜ paperHeat r ≡ heatTold document01 charge (t .0) (now (sheet .entry)) ⌝ }
+{
+    match admit_at(charge, t) {
+        Admitted::Burning(gas) => HeatAnswer::Is(heat_at(gas, t, sheet, air)),
+        Admitted::Refused(r) => HeatAnswer::Refused(r),
+    }
+}
+
+// The content of a charge above 15 °C at a temperature, over a sheet that was judged.
+pub fn content_judged(
+    charge: Charge,
+    t: Millikelvin,
+    sheet: &[u32],
+    air: &[u32; 1801],
+) -> HeatAnswer
+    requires { ⌜ Accepted (now sheet) × (now air ≡ rowsH) ⌝ }
+    ensures { λ r. ⌜ paperHeat r ≡ contentTold document01 charge (t .0) (now (sheet .entry)) ⌝ }
+{
+    match admit_at(charge, t) {
+        Admitted::Burning(gas) => HeatAnswer::Is(content_at(gas, t, sheet, air)),
+        Admitted::Refused(r) => HeatAnswer::Refused(r),
+    }
+}
+
+// The specific content of a charge at a temperature, over a sheet that was judged.
+pub fn specific_judged(
+    charge: Charge,
+    t: Millikelvin,
+    sheet: &[u32],
+    air: &[u32; 1801],
+) -> SpecificAnswer
+    requires { ⌜ Accepted (now sheet) × (now air ≡ rowsH) ⌝ }
+    ensures { λ r. ⌜ paperSpecific r ≡ specificTold document01 charge (t .0) (now (sheet .entry)) ⌝ }
+{
+    match admit_at(charge, t) {
+        Admitted::Burning(gas) => SpecificAnswer::Is(specific_at(gas, t, sheet, air)),
+        Admitted::Refused(r) => SpecificAnswer::Refused(r),
+    }
+}
+
+// The temperature of a heat with the rest, over a sheet that was judged: refusals 10, 4, 5, 8 and 9 tested.
+pub fn temperature_judged(
+    charge: Charge,
+    target: Heat,
+    looks: &mut [u32],
+    sheet: &[u32],
+    air: &[u32; 1801],
+) -> TemperatureAnswer
+    requires { ⌜ Accepted (now sheet) × (now air ≡ rowsH) ⌝ }
+    ensures { λ r. ⌜ Temperature document01 charge (target .0) (now (sheet .entry)) (now (looks .entry)) r (now (looks .exit)) ⌝ }
+{
+    if looks.len() < 11 {
+        return TemperatureAnswer::Refused(Refusal::Plain(air::LIST_SHORT));
+    }
+    match admit(charge) {
+        Admitted::Burning(gas) => find(gas, target, looks, sheet, air),
+        Admitted::Refused(r) => TemperatureAnswer::Refused(r),
+    }
 }

@@ -11,10 +11,8 @@ use inner::Admitted;
 use refusal::Refusal;
 use sheet::SheetAnswer;
 ghost use mathlib.Core.Path.{_≡_};
-ghost use Rattle.rows.specs.Rows.{rowsH};
-ghost use Rattle.refusal.specs.Refusals.{first};
-ghost use Rattle.gas.specs.Burning.{document01, gasOf};
-ghost use Rattle.gas.specs.Answers.{paperBurn, paperHeat, paperSpecific, paperGas, heatOrder, searchOrder, burnTold, heatTold, contentTold, specificTold, Temperature};
+ghost use Rattle.gas.specs.Burning.{document01};
+ghost use Rattle.gas.specs.Answers.{paperBurn, paperHeat, paperSpecific, burnTold, heatTold, contentTold, specificTold, Temperature};
 
 // A gas heat, in mg times 0.00001 C.H.U./lb.
 pub struct Heat(pub i64);
@@ -94,41 +92,14 @@ pub fn burn(air: i64, carbon: i64, hydrogen: i64) -> BurnAnswer
     }
 }
 
-// The gas of a charge to be read at a temperature: refusals 1, 3, 4, 5 and 6 tested.
-fn readable(charge: Charge, t: Millikelvin, sheet: &[u32], air: &[u32; 1801]) -> Admitted
-    requires { ⌜ now air ≡ rowsH ⌝ }
-    ensures { λ r. ⌜ paperGas r ≡ first (heatOrder document01 charge (t .0) (now (sheet .entry))) (gasOf charge) ⌝ }
-{
-    match sheet::inner::judge(sheet, air) {
-        SheetAnswer::Refused(r) => Admitted::Refused(r),
-        SheetAnswer::Good => inner::admit_at(charge, t),
-    }
-}
-
-// The gas of a charge to be searched, with so many places for looks: refusals 1, 3, 10, 4 and 5 tested.
-fn searchable(charge: Charge, sheet: &[u32], places: usize, air: &[u32; 1801]) -> Admitted
-    requires { ⌜ now air ≡ rowsH ⌝ }
-    ensures { λ r. ⌜ paperGas r ≡ first (searchOrder document01 charge (now (sheet .entry)) places) (gasOf charge) ⌝ }
-{
-    match sheet::inner::judge(sheet, air) {
-        SheetAnswer::Refused(r) => Admitted::Refused(r),
-        SheetAnswer::Good => {
-            if places < 11 {
-                return Admitted::Refused(Refusal::Plain(air::LIST_SHORT));
-            }
-            inner::admit(charge)
-        }
-    }
-}
-
 // The gas heat of a charge at a temperature.
 pub fn gas_heat(charge: Charge, t: Millikelvin, sheet: &[u32]) -> HeatAnswer
     ensures { λ r. ⌜ paperHeat r ≡ heatTold document01 charge (t .0) (now (sheet .entry)) ⌝ }
 {
     let air = rows::columns::heat_column();
-    match readable(charge, t, sheet, &air) {
-        Admitted::Burning(gas) => HeatAnswer::Is(inner::heat_at(gas, t, sheet, &air)),
-        Admitted::Refused(r) => HeatAnswer::Refused(r),
+    match sheet::inner::judge(sheet, &air) {
+        SheetAnswer::Good => inner::gas_heat_judged(charge, t, sheet, &air),
+        SheetAnswer::Refused(r) => HeatAnswer::Refused(r),
     }
 }
 
@@ -137,9 +108,9 @@ pub fn content(charge: Charge, t: Millikelvin, sheet: &[u32]) -> HeatAnswer
     ensures { λ r. ⌜ paperHeat r ≡ contentTold document01 charge (t .0) (now (sheet .entry)) ⌝ }
 {
     let air = rows::columns::heat_column();
-    match readable(charge, t, sheet, &air) {
-        Admitted::Burning(gas) => HeatAnswer::Is(inner::content_at(gas, t, sheet, &air)),
-        Admitted::Refused(r) => HeatAnswer::Refused(r),
+    match sheet::inner::judge(sheet, &air) {
+        SheetAnswer::Good => inner::content_judged(charge, t, sheet, &air),
+        SheetAnswer::Refused(r) => HeatAnswer::Refused(r),
     }
 }
 
@@ -148,9 +119,9 @@ pub fn specific_content(charge: Charge, t: Millikelvin, sheet: &[u32]) -> Specif
     ensures { λ r. ⌜ paperSpecific r ≡ specificTold document01 charge (t .0) (now (sheet .entry)) ⌝ }
 {
     let air = rows::columns::heat_column();
-    match readable(charge, t, sheet, &air) {
-        Admitted::Burning(gas) => SpecificAnswer::Is(inner::specific_at(gas, t, sheet, &air)),
-        Admitted::Refused(r) => SpecificAnswer::Refused(r),
+    match sheet::inner::judge(sheet, &air) {
+        SheetAnswer::Good => inner::specific_judged(charge, t, sheet, &air),
+        SheetAnswer::Refused(r) => SpecificAnswer::Refused(r),
     }
 }
 
@@ -164,8 +135,8 @@ pub fn temperature(
     ensures { λ r. ⌜ Temperature document01 charge (target .0) (now (sheet .entry)) (now (looks .entry)) r (now (looks .exit)) ⌝ }
 {
     let air = rows::columns::heat_column();
-    match searchable(charge, sheet, looks.len(), &air) {
-        Admitted::Burning(gas) => inner::find(gas, target, looks, sheet, &air),
-        Admitted::Refused(r) => TemperatureAnswer::Refused(r),
+    match sheet::inner::judge(sheet, &air) {
+        SheetAnswer::Good => inner::temperature_judged(charge, target, looks, sheet, &air),
+        SheetAnswer::Refused(r) => TemperatureAnswer::Refused(r),
     }
 }

@@ -9,12 +9,16 @@ use lib.Ieee.Exact.{HasValue}
 use Rattle.signed.specs.Zed.{up}
 use Rattle.refusal.specs.Refusals.{Told, gives, refused, first}
 use Rattle.gas.specs.declared.Charge.{Charge}
+use Rattle.gas.specs.declared.Gas.{Gas}
 use Rattle.gas.specs.Burning.{document01, gasOf, totalMass}
 use Rattle.gas.specs.Heat.{specificContent}
 use Rattle.gas.specs.Answers.{heatOrder}
 use Rattle.marking.specs.declared.StationFigure.{StationFigure}
 use Rattle.marking.specs.declared.StationAnswer.{StationAnswer}
 use Rattle.marking.specs.declared.StationAnswer.the-variants.{Is, Refused}
+use Rattle.marking.specs.declared.inner.StationNumbers.{StationNumbers}
+use Rattle.marking.specs.declared.inner.NumbersAnswer.{NumbersAnswer}
+use Rattle.marking.specs.declared.inner.NumbersAnswer.the-variants.{Are, Refused as NoNumbers}
 
 -- a whole number converted; "with no loss" is the law `figure-exact`
 abbrev pub figure : ℤ → Float
@@ -54,6 +58,14 @@ stationSpecific ch mk s = specificContent document01 s (gasOf ch) (up mk)
 abbrev pub stationMass : Charge → ℤ
 stationMass ch = pos (totalMass document01 (gasOf ch))
 
+-- the three whole numbers of a gas at a temperature
+abbrev pub numbersOf : List ℕ → ℤ → Gas → StationNumbers
+numbersOf s mk g = record { mk = mk; specific = specificContent document01 s g (up mk); mass = pos (totalMass document01 g) }
+
+-- what a station tells in whole numbers: the first of refusals 1, 3, 4, 5, 6 that holds, else the three
+abbrev pub numbersTold : Charge → ℤ → List ℕ → Told StationNumbers
+numbersTold ch mk s = first (heatOrder document01 ch mk s) (numbersOf s mk (gasOf ch))
+
 -- what a station tells: the first of refusals 1, 3, 4, 5, 6 that holds, else its figures
 abbrev pub stationTold : Charge → ℤ → List ℕ → Told StationFigure
 stationTold ch mk s = first (heatOrder document01 ch mk s) (figuresOf mk (stationSpecific ch mk s) (stationMass ch))
@@ -62,3 +74,7 @@ stationTold ch mk s = first (heatOrder document01 ch mk s) (figuresOf mk (statio
 abbrev pub paperStation : StationAnswer → Told StationFigure
 paperStation (Is f) = gives f
 paperStation (Refused r) = refused r
+
+abbrev pub paperNumbers : NumbersAnswer → Told StationNumbers
+paperNumbers (Are n) = gives n
+paperNumbers (NoNumbers r) = refused r

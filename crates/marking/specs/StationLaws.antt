@@ -6,6 +6,7 @@ use Prim.Native.Nat.{ℕ, _^_, _≤_}
 use native.Mathlib.Omega.{arith}
 use lib.IntN.{ℤ, pos, natAbs, _-ℤ_}
 use Rattle.signed.specs.Zed.{up, in-range, apart, zed}
+use Rattle.refusal.specs.Refusals.{gives}
 use Rattle.refusal.specs.RefusalsLaws.{values-given}
 use Rattle.refusal.specs.OrdersLaws.{clear-order, given}
 use Rattle.gas.specs.declared.Charge.{Charge}
@@ -15,8 +16,9 @@ use Rattle.gas.specs.Heat.{specificContent}
 use Rattle.gas.specs.Answers.{heatOrder}
 use Rattle.gas.specs.AnswersLaws.{Readable, readable-of}
 use Rattle.gas.specs.BoundsLaws.{mass-most, content-most, content-least, specific-most, specific-least}
-use Rattle.marking.specs.Figures.{figuresOf, AllExactly, differences, stationSpecific, stationMass, stationTold, paperStation}
+use Rattle.marking.specs.Figures.{figuresOf, AllExactly, differences, stationSpecific, stationMass, numbersTold, stationTold, paperStation}
 use Rattle.marking.specs.FiguresLaws.{abs-parts, figure-exact, like-figures}
+use Rattle.marking.specs.declared.inner.StationNumbers.{StationNumbers}
 use Rattle.marking.specs.declared.StationFigure.{StationFigure}
 use Rattle.marking.specs.declared.StationAnswer.the-variants.{Is}
 
@@ -64,6 +66,12 @@ readable-small {mk} {s} {g} h =
           );
       mass-small = omega (arith, mass-most b);
     }
+
+-- so are those that a station gives
+pub numbers-small : (ch : Charge) (mk : ℤ) (s : List ℕ) {n : StationNumbers} → gives n ≡ numbersTold ch mk s → Small (n .mk) (n .specific) (n .mass)
+numbers-small ch mk s e =
+    rw (← given (heatOrder document01 ch mk s) _ e)
+    (readable-small (readable-of document01 ch mk s (sym (values-given (gasOf ch) (clear-order (heatOrder document01 ch mk s) _ e)))))
 
 module _ (ch : Charge) (mk : ℤ) (s : List ℕ) {f : StationFigure} (e : paperStation (Is f) ≡ stationTold ch mk s) where
   given-figures : figuresOf mk (stationSpecific ch mk s) (stationMass ch) ≡ f

@@ -4,26 +4,21 @@
 // stations: specs/Figures.antt and specs/StationLaws.antt.
 mod division;
 mod exact;
+pub mod inner;
 
 use air::Millikelvin;
 use gas::Charge;
-use gas::Gas;
-use gas::inner::Admitted;
+use inner::NumbersAnswer;
 use refusal::Refusal;
 use sheet::SheetAnswer;
 ghost use mathlib.Core.Path.{_≡_};
-ghost use mathlib.Core.Bool.{true, false, not};
+ghost use mathlib.Core.Bool.{false, not};
 ghost use mathlib.Core.List.{[], _∷_};
 ghost use Prim.Native.Nat.{_≤_, _<_, _^_};
-ghost use lib.IntN.{pos, natAbs};
+ghost use lib.IntN.{natAbs};
 ghost use lib.Ieee.{binary64, sub};
 ghost use lib.Ieee.Scale.{finite};
-ghost use Rattle.signed.specs.Zed.{up, inZ};
-ghost use Rattle.rows.specs.Rows.{rowsH};
 ghost use Rattle.refusal.specs.Refusals.{first, _when_};
-ghost use Rattle.sheet.specs.Sheet.{Accepted};
-ghost use Rattle.gas.specs.Burning.{document01, Burns, totalMass};
-ghost use Rattle.gas.specs.Heat.{specificContent};
 ghost use Rattle.marking.specs.Marking.{paper, marked, near, outside};
 ghost use Rattle.marking.specs.Figures.{figuresOf, paperStation, stationTold};
 
@@ -111,16 +106,6 @@ fn figures(mk: i64, specific: i64, mass: i64) -> StationFigure
     }
 }
 
-// The figures of a gas at a temperature.
-fn figures_at(gas: Gas, t: Millikelvin, sheet: &[u32], air: &[u32; 1801]) -> StationFigure
-    requires { ⌜ Burns document01 gas × Accepted (now sheet) × (now air ≡ rowsH) × (inZ (pos 200000) (pos 2000000) (t .0) ≡ true) ⌝ }
-    ensures { λ r. ⌜ r ≡ figuresOf (t .0) (specificContent document01 (now (sheet .entry)) gas (up (t .0))) (pos (totalMass document01 gas)) ⌝ }
-{
-    let specific = gas::inner::specific_at(gas, t, sheet, air);
-    let mass = gas::inner::total_mass(gas);
-    figures(t.0, specific, signed::of_u64(mass))
-}
-
 // The figures of a charge at a temperature.
 pub fn station(charge: Charge, t: Millikelvin, sheet: &[u32]) -> StationAnswer
     ensures { λ r. ⌜ paperStation r ≡ stationTold charge (t .0) (now (sheet .entry)) ⌝ }
@@ -128,9 +113,9 @@ pub fn station(charge: Charge, t: Millikelvin, sheet: &[u32]) -> StationAnswer
     let air = rows::columns::heat_column();
     match sheet::inner::judge(sheet, &air) {
         SheetAnswer::Refused(r) => StationAnswer::Refused(r),
-        SheetAnswer::Good => match gas::inner::admit_at(charge, t) {
-            Admitted::Burning(gas) => StationAnswer::Is(figures_at(gas, t, sheet, &air)),
-            Admitted::Refused(r) => StationAnswer::Refused(r),
+        SheetAnswer::Good => match inner::station_judged(charge, t, sheet, &air) {
+            NumbersAnswer::Are(n) => StationAnswer::Is(figures(n.mk, n.specific, n.mass)),
+            NumbersAnswer::Refused(r) => StationAnswer::Refused(r),
         },
     }
 }

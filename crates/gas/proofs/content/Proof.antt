@@ -1,57 +1,35 @@
 use borrow.Author.Needs.{needs}
-use mathlib.Core.Path.{_≡_, sym, ap, _∙_}
-use mathlib.Core.List.{[]}
-use Rattle.refusal.specs.Refusals.{gives, first}
-use Rattle.signed.specs.Zed.{up}
-use Rattle.refusal.specs.OrdersLaws.{told-through, stopped}
-use Rattle.gas.specs.AnswersLaws.{readable-of}
-use Rattle.gas.specs.Answers.{paperGas, heatOrder}
-use Rattle.gas.specs.Heat.{contentAbove15}
-use Rattle.gas.specs.Burning.{document01, gasOf}
-use Rattle.gas.specs.declared.Gas.{Gas}
+use mathlib.Core.Path.{sym, ap, _∙_}
+use mathlib.Core.List.{_++_}
+use Rattle.sheet.specs.Answers.{paper}
+use Rattle.sheet.specs.AnswersLaws.{accepted-of-told, stopped-by-sheet}
+use Rattle.gas.specs.Answers.{chargeLines, temperatureLines}
+use Rattle.gas.specs.Burning.{document01}
 use Rattle.gas.proofs.content.Statement.{statement}
 use Rattle.gas.proofs.content.Tie as tie
-
--- what the tests tell of the gas
-given-gas : (c : tie.After-gas) → let s = c .before .before .before .before .before .before in gives (c .gas .given .0 .0) ≡ first (heatOrder document01 (s .args .charge) (s .args .t .0) (s .args .sheet .now)) (gasOf (s .args .charge))
-given-gas c = ap paperGas (sym (c .gas .given .1)) ∙ c .before .before .readable .ensures
 
 heat-column-requires : tie.Need-heat-column-requires
 heat-column-requires c κs = search needs
 
-readable-requires : tie.Need-readable-requires
-readable-requires c κs = search needs
+judge-requires : tie.Need-judge-requires
+judge-requires c κs = search needs
 
-enum-known-gas : tie.Need-enum-known-gas
-enum-known-gas c = search needs
+enum-told : tie.Need-enum-told
+enum-told c = search needs
 
-content-at-requires : tie.Need-content-at-requires
-content-at-requires c κs =
-    let s = c .before .before .before .before .before .before .before .before in
-    let h = readable-of document01 (s .args .charge) (s .args .t .0) (s .args .sheet .now) (given-gas (c .before .before)) in
-    (h .burns, h .accepted, c .before .before .before .before .before .before .heat-column .ensures, h .covered)
+content-judged-requires : tie.Need-content-judged-requires
+content-judged-requires c κs = (accepted-of-told _ (sym (c .before .before .before .judge .ensures) ∙ ap paper (c .before .enum-told .given .1)), c .before .before .before .before .before .heat-column .ensures)
 
 enum-known-r : tie.Need-enum-known-r
 enum-known-r c = search needs
 
 returns : tie.Need-returns
-returns c =
-    let s = c .before .before .before .before .before .before .before .before .before in
-    told-through (heatOrder document01 (s .args .charge) (s .args .t .0) (s .args .sheet .now)) (gasOf (s .args .charge)) (λ (g : Gas). contentAbove15 document01 (s .args .sheet .now) g (up (s .args .t .0))) (given-gas (c .before .before .before)) (c .content-at .ensures)
+returns c = c .content-judged .ensures
 
 returns-2 : tie.Need-returns-2
 returns-2 c =
     let s = c .before .before .before .before .before .before .before in
-    stopped (heatOrder document01 (s .args .charge) (s .args .t .0) (s .args .sheet .now)) [] _ _ (c .before .r .given .0 .0) (ap paperGas (sym (c .before .r .given .1)) ∙ c .before .before .before .readable .ensures)
+    sym (stopped-by-sheet (s .args .sheet .now) (c .before .r .given .0 .0) (chargeLines document01 (s .args .charge) ++ temperatureLines (s .args .t .0)) _ (ap paper (sym (c .before .r .given .1)) ∙ c .before .before .before .judge .ensures))
 
 pub content-spec : {M : Type 1} → statement M
-content-spec =
-    tie.close
-    (tie.spec
-    heat-column-requires
-    readable-requires
-    enum-known-gas
-    content-at-requires
-    enum-known-r
-    returns
-    returns-2)
+content-spec = tie.close (tie.spec heat-column-requires judge-requires enum-told content-judged-requires enum-known-r returns returns-2)

@@ -1,33 +1,29 @@
 use borrow.Author.Needs.{needs}
-use mathlib.Core.Path.{_≡_, sym, ap, _∙_}
+use mathlib.Core.Path.{sym, ap, _∙_}
+use mathlib.Core.List.{_∷_}
+use lib.Dec.{ltb}
 use lib.ListN.{length}
-use Rattle.refusal.specs.Refusals.{gives, first}
-use Rattle.refusal.specs.OrdersLaws.{given}
-use Rattle.gas.specs.AnswersLaws.{searchable-of, stopped-told, passed-told}
-use Rattle.gas.specs.Answers.{paperGas, searchOrder}
+use Rattle.refusal.specs.Refusals.{_when_}
+use Rattle.sheet.specs.Answers.{paper}
+use Rattle.sheet.specs.AnswersLaws.{accepted-of-told, stopped-by-sheet}
+use Rattle.gas.specs.AnswersLaws.{stopped-told}
+use Rattle.gas.specs.Answers.{chargeLines, searchOrder}
 use Rattle.gas.specs.Heat.{gasHeat}
 use Rattle.gas.specs.Burning.{document01, gasOf}
 use Rattle.gas.proofs.temperature.Statement.{statement}
 use Rattle.gas.proofs.temperature.Tie as tie
 
--- what the tests tell of the gas
-given-gas : (c : tie.After-gas) → let s = c .before .before .before .before .before .before .before in gives (c .gas .given .0 .0) ≡ first (searchOrder document01 (s .args .charge) (s .args .sheet .now) (length (s .args .looks .now))) (gasOf (s .args .charge))
-given-gas c = ap paperGas (sym (c .gas .given .1)) ∙ c .before .before .searchable .ensures
-
 heat-column-requires : tie.Need-heat-column-requires
 heat-column-requires c κs = search needs
 
-searchable-requires : tie.Need-searchable-requires
-searchable-requires c κs = search needs
+judge-requires : tie.Need-judge-requires
+judge-requires c κs = search needs
 
-enum-known-gas : tie.Need-enum-known-gas
-enum-known-gas c = search needs
+enum-told : tie.Need-enum-told
+enum-told c = search needs
 
-find-requires : tie.Need-find-requires
-find-requires c κs =
-    let s = c .before .before .before .before .before .before .before .before .before .before in
-    let h = searchable-of document01 (s .args .charge) (s .args .sheet .now) (length (s .args .looks .now)) (given-gas (c .before .before .before)) in
-    (h .burns, h .accepted, c .before .before .before .before .before .before .before .heat-column .ensures, h .room)
+temperature-judged-requires : tie.Need-temperature-judged-requires
+temperature-judged-requires c κs = (accepted-of-told _ (sym (c .before .before .before .before .judge .ensures) ∙ ap paper (c .before .before .enum-told .given .1)), c .before .before .before .before .before .before .heat-column .ensures)
 
 enum-known-r : tie.Need-enum-known-r
 enum-known-r c = search needs
@@ -36,26 +32,22 @@ same-length : tie.Need-same-length
 same-length c = search needs
 
 returns : tie.Need-returns
-returns c =
-    let s = c .before .before .before .before .before .before .before .before .before .before .before .before .before in
-    let e = given-gas (c .before .before .before .before .before .before) in
-    passed-told (gasHeat document01 (s .args .sheet .now) (gasOf (s .args .charge))) (s .args .target .0) (s .args .looks .now) (searchOrder document01 (s .args .charge) (s .args .sheet .now) (length (s .args .looks .now))) _ e
-    (rw (← given (searchOrder document01 (s .args .charge) (s .args .sheet .now) (length (s .args .looks .now))) _ e) at (c .before .before .find .ensures))
+returns c = c .before .before .temperature-judged .ensures
 
 returns-2 : tie.Need-returns-2
 returns-2 c =
     let s = c .before .before .before .before .before .before .before .before in
-    stopped-told (gasHeat document01 (s .args .sheet .now) (gasOf (s .args .charge))) (s .args .target .0) (s .args .looks .now) (searchOrder document01 (s .args .charge) (s .args .sheet .now) (length (s .args .looks .now))) _ (c .before .r .given .0 .0)
-    (ap paperGas (sym (c .before .r .given .1)) ∙ c .before .before .before .searchable .ensures)
+    stopped-told (gasHeat document01 (s .args .sheet .now) (gasOf (s .args .charge))) (s .args .target .0) (s .args .looks .now) (searchOrder document01 (s .args .charge) (s .args .sheet .now) (length (s .args .looks .now))) (gasOf (s .args .charge)) (c .before .r .given .0 .0)
+    (sym (stopped-by-sheet (s .args .sheet .now) (c .before .r .given .0 .0) (10 when ltb (length (s .args .looks .now)) 11 ∷ chargeLines document01 (s .args .charge)) _ (ap paper (sym (c .before .r .given .1)) ∙ c .before .before .before .judge .ensures)))
 
 pub temperature-spec : {M : Type 1} → statement M
 temperature-spec =
     tie.close
     (tie.spec
     heat-column-requires
-    searchable-requires
-    enum-known-gas
-    find-requires
+    judge-requires
+    enum-told
+    temperature-judged-requires
     enum-known-r
     same-length
     returns

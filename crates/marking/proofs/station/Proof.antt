@@ -1,31 +1,36 @@
--- `station`: the sheet is judged first, then the charge and the temperature; past the refusals its figures are those of the gas. Assumes nothing.
+-- `station`: the sheet is judged first; past it the whole numbers are small enough to be figures. Assumes nothing.
 use borrow.Author.Needs.{needs}
-use mathlib.Core.Path.{_≡_, sym, ap, _∙_}
+use mathlib.Core.Path.{_≡_, refl, sym, ap, _∙_}
 use mathlib.Core.List.{[], _++_}
-use lib.IntN.{pos}
-use Rattle.signed.specs.Zed.{up}
-use Rattle.refusal.specs.Refusals.{gives, first}
-use Rattle.refusal.specs.OrdersLaws.{told-through, stopped, passed}
-use Rattle.sheet.specs.Answers.{paper, sheetLines}
-use Rattle.gas.specs.declared.Gas.{Gas}
-use Rattle.gas.specs.Burning.{document01, gasOf, totalMass}
-use Rattle.gas.specs.Heat.{specificContent}
-use Rattle.gas.specs.Answers.{paperGas, chargeLines, temperatureLines, heatOrder}
-use Rattle.gas.specs.AnswersLaws.{readable-of}
-use Rattle.marking.specs.Figures.{figuresOf}
+use native.Mathlib.Omega.{arith}
+use Prim.Native.Nat.{_^_, _≤_}
+use lib.IntN.{ℤ, natAbs}
+use mir.Syntax.{w64}
+use mir.Val.{SFits}
+use Rattle.signed.specs.Zed.{back, apart, is-self, fits-from}
+use Rattle.refusal.specs.Refusals.{gives}
+use Rattle.refusal.specs.OrdersLaws.{told-through, stopped}
+use Rattle.sheet.specs.Answers.{paper}
+use Rattle.sheet.specs.AnswersLaws.{accepted-of-told, stopped-by-sheet}
+use Rattle.gas.specs.Burning.{document01, gasOf}
+use Rattle.gas.specs.Answers.{chargeLines, temperatureLines, heatOrder}
+use Rattle.marking.specs.declared.inner.StationNumbers.{StationNumbers}
+use Rattle.marking.specs.Figures.{figuresOf, numbersOf, numbersTold, paperNumbers}
+use Rattle.marking.specs.FiguresLaws.{abs-parts}
+use Rattle.marking.specs.StationLaws.{Small, numbers-small}
 use Rattle.marking.proofs.station.Statement.{statement}
 use Rattle.marking.proofs.station.Tie as tie
 
--- past the sheet, what the charge and the temperature tell is the whole order's answer
-past-sheet : (c : tie.After-admit-at) → let s = c .before .before .before .before .before .before .before in paperGas (c .admit-at .result) ≡ first (heatOrder document01 (s .args .charge) (s .args .t .0) (s .args .sheet .now)) (gasOf (s .args .charge))
-past-sheet c =
-    let s = c .before .before .before .before .before .before .before in
-    c .admit-at .ensures
-    ∙ sym (passed (sheetLines (s .args .sheet .now)) (chargeLines document01 (s .args .charge) ++ temperatureLines (s .args .t .0)) tt _ {x = tt} (ap paper (sym (c .before .enum-told .given .1)) ∙ c .before .before .before .judge .ensures))
+-- what the door told of the numbers
+given-numbers : (c : tie.After-n) → let s = c .before .before .before .before .before .before .before .before .before .before in gives (c .n .given .0 .0) ≡ numbersTold (s .args .charge) (s .args .t .0) (s .args .sheet .now)
+given-numbers c = ap paperNumbers (sym (c .n .given .1)) ∙ c .before .before .station-judged .ensures
 
--- and so is the gas
-given-gas : (c : tie.After-gas) → let s = c .before .before .before .before .before .before .before .before .before in gives (c .gas .given .0 .0) ≡ first (heatOrder document01 (s .args .charge) (s .args .t .0) (s .args .sheet .now)) (gasOf (s .args .charge))
-given-gas c = ap paperGas (sym (c .gas .given .1)) ∙ past-sheet (c .before .before)
+small : (c : tie.After-n) → Small (c .n .given .0 .0 .mk) (c .n .given .0 .0 .specific) (c .n .given .0 .0 .mass)
+small c = let s = c .before .before .before .before .before .before .before .before .before .before in numbers-small (s .args .charge) (s .args .t .0) (s .args .sheet .now) (given-numbers c)
+
+-- the machine reads each of them whole
+fits : (z : ℤ) → natAbs z ≤ 2 ^ 52 → SFits w64 z
+fits z h = fits-from w64 (is-self z) (omega (arith, abs-parts z, apart z)) (omega (arith, abs-parts z, apart z))
 
 heat-column-requires : tie.Need-heat-column-requires
 heat-column-requires c κs = search needs
@@ -39,17 +44,16 @@ enum-known-r c = search needs
 enum-told : tie.Need-enum-told
 enum-told c = search needs
 
-admit-at-requires : tie.Need-admit-at-requires
-admit-at-requires c κs = search needs
+station-judged-requires : tie.Need-station-judged-requires
+station-judged-requires c κs = (accepted-of-told _ (sym (c .before .before .before .judge .ensures) ∙ ap paper (c .before .enum-told .given .1)), c .before .before .before .before .before .heat-column .ensures)
 
-enum-known-gas : tie.Need-enum-known-gas
-enum-known-gas c = search needs
+enum-known-n : tie.Need-enum-known-n
+enum-known-n c = search needs
 
-figures-at-requires : tie.Need-figures-at-requires
-figures-at-requires c κs =
-    let s = c .before .before .before .before .before .before .before .before .before .before .before in
-    let h = readable-of document01 (s .args .charge) (s .args .t .0) (s .args .sheet .now) (given-gas (c .before .before)) in
-    (h .burns, h .accepted, c .before .before .before .before .before .before .before .before .before .heat-column .ensures, h .covered)
+figures-requires : tie.Need-figures-requires
+figures-requires c κs =
+    let m = small (c .before .before .before .before) in
+    rw (back (fits _ (m .mk-small)), back (fits _ (m .specific-small)), back (fits _ (m .mass-small))) (omega arith, (omega arith, omega arith))
 
 enum-known-r-2 : tie.Need-enum-known-r-2
 enum-known-r-2 c = search needs
@@ -57,17 +61,18 @@ enum-known-r-2 c = search needs
 returns : tie.Need-returns
 returns c =
     let s = c .before .before .before .before .before .before .before in
-    stopped (sheetLines (s .args .sheet .now)) (chargeLines document01 (s .args .charge) ++ temperatureLines (s .args .t .0)) tt _ (c .before .r .given .0 .0) (ap paper (sym (c .before .r .given .1)) ∙ c .before .before .before .judge .ensures)
+    sym (stopped-by-sheet (s .args .sheet .now) (c .before .r .given .0 .0) (chargeLines document01 (s .args .charge) ++ temperatureLines (s .args .t .0)) _ (ap paper (sym (c .before .r .given .1)) ∙ c .before .before .before .judge .ensures))
 
 returns-2 : tie.Need-returns-2
 returns-2 c =
-    let s = c .before .before .before .before .before .before .before .before .before .before .before .before in
-    told-through (heatOrder document01 (s .args .charge) (s .args .t .0) (s .args .sheet .now)) (gasOf (s .args .charge)) (λ (g : Gas). figuresOf (s .args .t .0) (specificContent document01 (s .args .sheet .now) g (up (s .args .t .0))) (pos (totalMass document01 g))) (given-gas (c .before .before .before)) (c .figures-at .ensures)
+    let s = c .before .before .before .before .before .before .before .before .before .before .before .before .before .before .before in
+    told-through (heatOrder document01 (s .args .charge) (s .args .t .0) (s .args .sheet .now)) (numbersOf (s .args .sheet .now) (s .args .t .0) (gasOf (s .args .charge))) (λ (n : StationNumbers). figuresOf (n .mk) (n .specific) (n .mass)) (given-numbers (c .before .before .before .before .before))
+    (let m = small (c .before .before .before .before .before) in c .figures .ensures ∙ rw (back (fits _ (m .mk-small)), back (fits _ (m .specific-small)), back (fits _ (m .mass-small))) refl)
 
 returns-3 : tie.Need-returns-3
 returns-3 c =
-    let s = c .before .before .before .before .before .before .before .before .before .before in
-    stopped (heatOrder document01 (s .args .charge) (s .args .t .0) (s .args .sheet .now)) [] _ _ (c .before .r2 .given .0 .0) (ap paperGas (sym (c .before .r2 .given .1)) ∙ past-sheet (c .before .before .before))
+    let s = c .before .before .before .before .before .before .before .before .before .before .before in
+    stopped (heatOrder document01 (s .args .charge) (s .args .t .0) (s .args .sheet .now)) [] _ _ (c .before .r2 .given .0 .0) (ap paperNumbers (sym (c .before .r2 .given .1)) ∙ c .before .before .before .station-judged .ensures)
 
 pub station-spec : {M : Type 1} → statement M
 station-spec =
@@ -77,9 +82,9 @@ station-spec =
     judge-requires
     enum-known-r
     enum-told
-    admit-at-requires
-    enum-known-gas
-    figures-at-requires
+    station-judged-requires
+    enum-known-n
+    figures-requires
     enum-known-r-2
     returns
     returns-2

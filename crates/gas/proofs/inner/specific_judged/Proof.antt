@@ -1,0 +1,48 @@
+use borrow.Author.Needs.{needs}
+use mathlib.Core.Path.{_≡_, sym, ap, _∙_}
+use mathlib.Core.List.{[]}
+use mir.Syntax.{w64}
+use mir.Val.{SFits}
+use Rattle.refusal.specs.Refusals.{first}
+use Rattle.signed.specs.Zed.{up, back}
+use Rattle.refusal.specs.OrdersLaws.{told-through, stopped}
+use Rattle.gas.specs.AnswersLaws.{readable-of, past-heat}
+use Rattle.gas.specs.Answers.{paperGas, heatOrder}
+use Rattle.gas.specs.Heat.{specificContent}
+use Rattle.gas.specs.Burning.{document01, gasOf}
+use Rattle.gas.specs.declared.Gas.{Gas}
+use Rattle.gas.proofs.inner.specific_judged.Statement.{statement}
+use Rattle.gas.proofs.inner.specific_judged.Tie as tie
+
+-- past the sheet, what the charge and the temperature tell is the whole order's answer
+told : (c : tie.After-admit-at) → let s = c .before .before in paperGas (c .admit-at .result) ≡ first (heatOrder document01 (s .args .charge) (s .args .t .0) (s .args .sheet .now)) (gasOf (s .args .charge))
+told c = let s = c .before .before in past-heat (s .pre .0) document01 (s .args .charge) (s .args .t .0) (c .admit-at .ensures)
+
+admit-at-requires : tie.Need-admit-at-requires
+admit-at-requires c κs = search needs
+
+enum-known-gas : tie.Need-enum-known-gas
+enum-known-gas c = search needs
+
+specific-at-requires : tie.Need-specific-at-requires
+specific-at-requires c κs =
+    let s = c .before .before .before .before .before in
+    let h = readable-of document01 (s .args .charge) (s .args .t .0) (s .args .sheet .now) (ap paperGas (sym (c .before .gas .given .1)) ∙ told (c .before .before .before)) in
+    (h .burns, h .accepted, s .pre .1, h .covered)
+
+enum-known-r : tie.Need-enum-known-r
+enum-known-r c = search needs
+
+returns : tie.Need-returns
+returns c =
+    let s = c .before .before .before .before .before .before in
+    let f : SFits w64 (c .specific-at .result) = search needs in
+    told-through (heatOrder document01 (s .args .charge) (s .args .t .0) (s .args .sheet .now)) (gasOf (s .args .charge)) (λ (g : Gas). specificContent document01 (s .args .sheet .now) g (up (s .args .t .0))) (ap paperGas (sym (c .before .before .gas .given .1)) ∙ told (c .before .before .before .before)) (back f ∙ c .specific-at .ensures)
+
+returns-2 : tie.Need-returns-2
+returns-2 c =
+    let s = c .before .before .before .before .before in
+    stopped (heatOrder document01 (s .args .charge) (s .args .t .0) (s .args .sheet .now)) [] _ _ (c .before .r .given .0 .0) (ap paperGas (sym (c .before .r .given .1)) ∙ told (c .before .before .before))
+
+pub specific-judged-spec : {M : Type 1} → statement M
+specific-judged-spec = tie.close (tie.spec admit-at-requires enum-known-gas specific-at-requires enum-known-r returns returns-2)
