@@ -12,24 +12,47 @@ use crate::walk::{self, Lent, Outcome, State};
 /// The sheet behind the requests: a list, or the refusal that its text was given.
 pub type Sheet<'a> = Result<&'a [u32], Refusal>;
 
+/// The words of the requests that take numbers alone.
+const WORDS: [&str; 11] = [
+    "air-heat",
+    "air-psi",
+    "air-cp",
+    "air-temperature",
+    "burn",
+    "gas-heat",
+    "content",
+    "specific-content",
+    "temperature",
+    "station",
+    "walk",
+];
+
+/// The longest line that is read, in bytes.
+pub const LONGEST: usize = 65_536;
+
 /// The answer to a request line; neither has a line feed.
 pub fn answer(line: &str, sheet: Sheet) -> String {
+    if line.len() > LONGEST {
+        return error("the line is too long");
+    }
     if line.contains('\r') {
         return error("the line has a carriage return");
     }
     let fields: Vec<&str> = line.split('\t').collect();
-    if fields[0] == "mark" {
-        return mark_answer(&fields[1..]);
-    }
-    match numbers(&fields[1..]) {
-        Some(numbers) => number_answer(fields[0], &numbers, sheet),
-        None => error("a field is no signed 64-bit number"),
-    }
+    let reply = match fields[0] {
+        "mark" => mark_answer(&fields[1..]),
+        word if WORDS.contains(&word) => {
+            numbers(&fields[1..]).and_then(|numbers| number_answer(word, &numbers, sheet))
+        }
+        _ => return error("no such request"),
+    };
+    reply.unwrap_or_else(|| error("the request takes other fields"))
 }
 
-fn number_answer(word: &str, numbers: &[i64], sheet: Sheet) -> String {
+/// The answer to a request that takes numbers alone, if it takes these.
+fn number_answer(word: &str, numbers: &[i64], sheet: Sheet) -> Option<String> {
     let one = |number: i128| vec![number];
-    match (word, numbers) {
+    let reply = match (word, numbers) {
         ("air-heat", [mk]) => say(air::heat(*mk).map(|heat| vec![heat.into()])),
         ("air-psi", [mk]) => say(air::psi(*mk).map(|psi| vec![psi.into()])),
         ("air-cp", [kelvin]) => say(air::cp(*kelvin).map(|cp| vec![cp.into()])),
@@ -59,8 +82,9 @@ fn number_answer(word: &str, numbers: &[i64], sheet: Sheet) -> String {
                 Err(refusal) => say_refused(&refusal),
             }
         }
-        _ => error("no such request"),
-    }
+        _ => return None,
+    };
+    Some(reply)
 }
 
 /// `ok` and the numbers, or the refusal.
@@ -140,24 +164,23 @@ pub fn say_outcome(outcome: &Outcome) -> String {
     }
 }
 
-fn mark_answer(fields: &[&str]) -> String {
+/// The answer to a mark, if it has a kind, a typed answer unless it is blank, a key and a window.
+fn mark_answer(fields: &[&str]) -> Option<String> {
     let (typed, rest) = match fields {
         ["kelvins", x, rest @ ..] => (float(x).map(Typed::Kelvins), rest),
         ["content", x, rest @ ..] => (float(x).map(Typed::Content), rest),
         ["blank", rest @ ..] => (Some(Typed::Blank), rest),
-        _ => return error("no such kind of answer"),
+        _ => return None,
     };
     let Some(typed) = typed else {
-        return error("not a number");
+        return Some(error("not a number"));
     };
-    match numbers(rest).as_deref() {
-        Some([key, window]) => match marking::mark(typed, *key, *window) {
-            Ok(true) => "counts".to_string(),
-            Ok(false) => "misses".to_string(),
-            Err(refusal) => say_refused(&refusal),
-        },
-        _ => error("a mark wants its answer, a key and a window"),
-    }
+    let [key, window] = numbers(rest)?[..] else { return None };
+    Some(match marking::mark(typed, key, window) {
+        Ok(true) => "counts".to_string(),
+        Ok(false) => "misses".to_string(),
+        Err(refusal) => say_refused(&refusal),
+    })
 }
 
 /// A typed number: `x` and the 16 hexadecimal digits of its bits, or a decimal number.

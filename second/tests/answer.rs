@@ -46,8 +46,7 @@ fn every_request_has_its_answer() {
 
 #[test]
 fn a_line_that_is_no_request_is_an_error() {
-    let lines = [
-        "",
+    let misfits = [
         "air-heat",
         "air-heat 1 2",
         "air-heat x",
@@ -56,17 +55,30 @@ fn a_line_that_is_no_request_is_an_error() {
         "air-heat 9223372036854775808",
         "walk 1 0 0",
         "mark",
+        "mark warmly 1 0 0",
+        "mark kelvins",
         "mark kelvins 1 2",
+        "mark blank 0",
+    ];
+    let no_numbers = [
         "mark kelvins 1e5 0 0",
         "mark kelvins .5 0 0",
         "mark kelvins 5. 0 0",
         "mark kelvins 1234567890123456 0 0",
-        "mark kelvins x12 0 0",
-        "mark blank 0",
+        "mark kelvins x12",
     ];
-    for line in lines {
-        assert!(ask(line).starts_with("error"), "{line}");
+    for line in ["", "heat 1", "Burn 1 0 0", " burn 1 0 0"] {
+        assert_eq!(ask(line), "error no such request", "{line}");
     }
+    for line in misfits {
+        assert_eq!(ask(line), "error the request takes other fields", "{line}");
+    }
+    for line in no_numbers {
+        assert_eq!(ask(line), "error not a number", "{line}");
+    }
+    assert_eq!(ask("heat\r"), "error the line has a carriage return");
+    assert_eq!(ask(&"\r".repeat(65_537)), "error the line is too long");
+    assert_eq!(ask(&"\r".repeat(65_536)), "error the line has a carriage return");
 }
 
 #[test]

@@ -4,6 +4,7 @@ pub mod ask;
 pub mod gas;
 pub mod limits;
 pub mod marks;
+pub mod misfits;
 pub mod rows;
 pub mod runs;
 pub mod sheets;

@@ -6,7 +6,7 @@ use crate::gas::Gases;
 use crate::program::Run;
 use crate::sheet;
 use crate::trials::sheets::{accepted, bases, damage, limit_texts, random, random_text, Base};
-use crate::trials::{gas, marks, rows, walks};
+use crate::trials::{gas, marks, misfits, rows, walks};
 
 /// The name of a file of a run.
 const SHEET: &str = "sheet.tsv";
@@ -18,6 +18,7 @@ pub fn runs(seed: u64) -> Vec<(String, Run)> {
     let kinds = [
         ("rows", vec![ask(&[rows::edges(), rows::between(dice), rows::inverses(dice)].concat())]),
         ("marks", vec![ask(&marks::requests(dice))]),
+        ("misfits", vec![ask(&misfits::requests(dice))]),
         ("burn", vec![ask(&gas::burning(dice))]),
         ("gas", over_good_sheets(dice)),
         ("bad-sheet", over_bad_sheets(dice)),

@@ -49,9 +49,24 @@ pub fn walks(dice: &mut Dice, list: &[u32], pairs: usize) -> Vec<Walk> {
         walks.push(good);
     }
     for length in [63, 64, 65] {
-        walks.push(random_walk(dice, list, &gases, length));
+        walks.push(whole_walk(dice, list, &gases, length));
     }
     walks
+}
+
+/// A walk of that length, none of whose steps is refused.
+fn whole_walk(dice: &mut Dice, list: &[u32], gases: &Gases, length: usize) -> Walk {
+    let mut walk = random_walk(dice, list, gases, 0);
+    let [air, carbon, hydrogen, mk] = walk.start;
+    let mut now = State { charge: Charge { air, carbon, hydrogen }, mk };
+    while walk.steps.len() < 4 * length {
+        let step = random_step(dice, gases, &now);
+        if let Some(next) = after(&now, list, &step) {
+            walk.steps.extend(step);
+            now = next;
+        }
+    }
+    walk
 }
 
 /// A walk of that length, each step from where the steps before lead.
