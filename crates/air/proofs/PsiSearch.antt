@@ -14,6 +14,7 @@ use Rattle.signed.specs.Zed.{up, apart, plain, zed}
 use Rattle.rows.specs.Rows.{rowsPsi}
 use Rattle.rows.specs.Table.{column, airPsi}
 use Rattle.rows.specs.TableLaws.{psi-grows}
+use Rattle.air.specs.Limits.{lookPlaces}
 use Rattle.air.specs.declared.PsiAnswer.{PsiAnswer}
 use Rattle.air.specs.declared.PsiAnswer.the-variants.{At}
 use Rattle.air.specs.Readings.{airPsiAt}
@@ -73,14 +74,14 @@ module _ {target row a b : ℕ} (h : PsiRow target row a b) where
 
 -- a target that the table reaches: the last value, or one that is searched
 module _ (target : ℕ) where
-  pub last-searched : (before after : List ℕ) → target ≡ 1000 * airPsi 2000 → after ≡ replicate 11 0 ++ drop 11 before
+  pub last-searched : (before after : List ℕ) → target ≡ 1000 * airPsi 2000 → after ≡ replicate lookPlaces 0 ++ drop lookPlaces before
       → PsiSearched target before (At (record { 0 = pos 2000000 }) 0) after
   unfolding psiFound eleven
   last-searched before after e h =
       let t : pos target ≡ psiValue 2000000 = ap pos (omega (arith, psi-whole 2000 (omega arith))) in
       record {
         answer = rw (top-temperature psiValue (pos target) t, top-rest psiValue (pos target) t) refl;
-        list = h ∙ ap (λ (l : List ℕ). eleven l ++ drop 11 before) (sym (no-looks psiValue (pos target) t));
+        list = h ∙ ap (λ (l : List ℕ). eleven l ++ drop lookPlaces before) (sym (no-looks psiValue (pos target) t));
       }
 
   module _ (low : 1000 * airPsi 200 ≤ target) (high : target < 1000 * airPsi 2000) where
@@ -111,12 +112,12 @@ module _ (target : ℕ) where
           fails = omega (arith, leb-false (airPsiAt (1000 * (row + 1))) target n, psi-whole (row + 1) (omega arith));
         }
 
-    pub searched : {places before after : List ℕ} {row : ℕ} {r : PsiAnswer} → Halved (psiFits target) 200 2000 0 (replicate 11 0) row places
-        → after ≡ places ++ drop 11 before → r ≡ psiFound target → PsiSearched target before r after
+    pub searched : {places before after : List ℕ} {row : ℕ} {r : PsiAnswer} → Halved (psiFits target) 200 2000 0 (replicate lookPlaces 0) row places
+        → after ≡ places ++ drop lookPlaces before → r ≡ psiFound target → PsiSearched target before r after
     unfolding psiFits
     searched {before} h l e = record {
       answer = e;
-      list = l ∙ ap (λ (x : List ℕ). x ++ drop 11 before) (places-are h ∙ ap eleven (sym (looks-are psiValue (pos target) below-last)));
+      list = l ∙ ap (λ (x : List ℕ). x ++ drop lookPlaces before) (places-are h ∙ ap eleven (sym (looks-are psiValue (pos target) below-last)));
     }
 
 -- ---- the answer of the call
@@ -140,5 +141,5 @@ psi-answered target before {n} c e l h =
     sym (plain (omega (zed, apart (rest psiValue (pos n)), rest-least psiValue (pos n) l))) in
     record {
       told = ap paperPsi (h .answer) ∙ ap (λ (z : ℤ). gives (record { mk = pos (temperature psiValue (pos n)); left = z })) p ∙ ap (λ (z : ℤ). gives (found psiValue z)) e ∙ sym g;
-      list = rw g (h .list ∙ ap (λ (z : ℤ). eleven (looks psiValue z) ++ drop 11 before) e);
+      list = rw g (h .list ∙ ap (λ (z : ℤ). eleven (looks psiValue z) ++ drop lookPlaces before) e);
     }

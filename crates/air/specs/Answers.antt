@@ -7,6 +7,7 @@ use lib.IntN.{ℤ, pos}
 use lib.ListN.{length}
 use Rattle.signed.specs.Zed.{up, outside}
 use Rattle.rows.specs.Table.{airCp}
+use Rattle.air.specs.Limits.{lookPlaces}
 use Rattle.air.specs.declared.Reading.{Reading}
 use Rattle.air.specs.declared.Reading.the-variants.{Is, Refused}
 use Rattle.air.specs.declared.PsiAnswer.{PsiAnswer}
@@ -42,7 +43,7 @@ paperPsi (PsiRefused r) = refused r
 
 -- refusal 10 for a list of fewer than eleven places, then 8 or 9
 abbrev pub psiOrder : ℕ → ℤ → List Line
-psiOrder places target = 10 when ltb places 11 ∷ unreached psiValue target
+psiOrder places target = 10 when ltb places lookPlaces ∷ unreached psiValue target
 
 abbrev pub psiInverseTold : ℕ → ℤ → Told Found
 psiInverseTold places target = first (psiOrder places target) (found psiValue target)

@@ -6,6 +6,7 @@ use Prim.Native.Nat.{ℕ, zero, suc, _+_, _-_, _/_, _≤_}
 use lib.Dec.{leb}
 use lib.ListN.{length, replicate}
 use lib.Seq.{sets}
+use Rattle.air.specs.Limits.{lookPlaces}
 
 -- look at the middle, half the sum rounded down
 abbrev pub middle : ℕ → ℕ → ℕ
@@ -45,7 +46,7 @@ highest p from to = highestBy p from (to - from)
 
 -- looks in eleven places, 0 where unused
 unfoldable pub eleven : List ℕ → List ℕ
-eleven looks = looks ++ replicate (11 - length looks) 0
+eleven looks = looks ++ replicate (lookPlaces - length looks) 0
 
 -- a lent list has room for all the looks of a search over the test p between lo and hi, from the place `at` on
 pub record Room (p : ℕ → Bool) (lo hi at : ℕ) (list : List ℕ) : Type 0 where

@@ -18,6 +18,7 @@ use lib.Dec.{leb, lit<, lit≤}
 use lib.Pow.{pow-pos}
 use lib.ListN.{length, drop, replicate, set, length-set, length-append, length-replicate}
 use lib.Seq.{sets, sets-eq, drop-append-le}
+use Rattle.air.specs.Limits.{lookPlaces}
 use Rattle.air.specs.Halving.{middle, Search, looked, stopped, halvings, halving, highestBy, highest, eleven, Room, Halved}
 use Rattle.refusal.specs.BoolLaws.{by-bool}
 
@@ -144,8 +145,8 @@ at-least p lo hi =
 pub at-least-ten : (p : ℕ → Bool) → 10 ≤ length (halving p 200 2000 .looks)
 at-least-ten p = at-least p 200 2000 (lit< tt) 10 (lit≤ tt)
 
-pub at-most-eleven : (p : ℕ → Bool) → length (halving p 200 2000 .looks) ≤ 11
-at-most-eleven p = at-most p 200 2000 (lit< tt) 11 (lit≤ tt)
+pub at-most-eleven : (p : ℕ → Bool) → length (halving p 200 2000 .looks) ≤ lookPlaces
+at-most-eleven p = at-most p 200 2000 (lit< tt) lookPlaces (lit≤ tt)
 
 -- ---- the highest
 highest-by : (p : ℕ → Bool) (from n d : ℕ) → d ≤ n → (0 < d → p (from + d) ≡ true) → ((u : ℕ) → d < u → u ≤ n → p (from + u) ≡ false) → highestBy p from n ≡ from + d
@@ -241,17 +242,17 @@ drop-replicate zero m v = ap (λ (k : ℕ). replicate k v) {x = m} {y = m - 0} (
 drop-replicate (suc n) zero v = ap (λ (k : ℕ). replicate k v) {x = 0} {y = 0 - suc n} (omega arith)
 drop-replicate (suc n) (suc m) v = drop-replicate n m v ∙ ap (λ (k : ℕ). replicate k v) {x = m - n} {y = suc m - suc n} (omega arith)
 
-pub length-eleven : (xs : List ℕ) → length xs ≤ 11 → length (eleven xs) ≡ 11
+pub length-eleven : (xs : List ℕ) → length xs ≤ lookPlaces → length (eleven xs) ≡ lookPlaces
 unfolding eleven
-length-eleven xs h = length-append xs (replicate (11 - length xs) 0) ∙ omega (arith, length-replicate {A = ℕ} (11 - length xs) 0)
+length-eleven xs h = length-append xs (replicate (lookPlaces - length xs) 0) ∙ omega (arith, length-replicate {A = ℕ} (lookPlaces - length xs) 0)
 
-looks-placed : (vs : List ℕ) → length vs ≤ 11 → sets (replicate 11 0) 0 vs ≡ eleven vs
+looks-placed : (vs : List ℕ) → length vs ≤ lookPlaces → sets (replicate lookPlaces 0) 0 vs ≡ eleven vs
 unfolding eleven
 looks-placed vs h =
-    sets-eq vs (replicate 11 0) 0 (omega (arith, length-replicate {A = ℕ} 11 0))
-    ∙ ap (λ (n : ℕ). vs ++ drop n (replicate 11 0)) {x = 0 + length vs} {y = length vs} (omega arith)
-    ∙ ap (λ (r : List ℕ). vs ++ r) (drop-replicate (length vs) 11 0)
+    sets-eq vs (replicate lookPlaces 0) 0 (omega (arith, length-replicate {A = ℕ} lookPlaces 0))
+    ∙ ap (λ (n : ℕ). vs ++ drop n (replicate lookPlaces 0)) {x = 0 + length vs} {y = length vs} (omega arith)
+    ∙ ap (λ (r : List ℕ). vs ++ r) (drop-replicate (length vs) lookPlaces 0)
 
 -- the row that a search from 200 and 2,000 keeps, and its looks in those places
-pub places-are : {p : ℕ → Bool} {row : ℕ} {places : List ℕ} → Halved p 200 2000 0 (replicate 11 0) row places → places ≡ eleven (halving p 200 2000 .looks)
+pub places-are : {p : ℕ → Bool} {row : ℕ} {places : List ℕ} → Halved p 200 2000 0 (replicate lookPlaces 0) row places → places ≡ eleven (halving p 200 2000 .looks)
 places-are {p} h = h .list-is ∙ looks-placed (halving p 200 2000 .looks) (at-most-eleven p)

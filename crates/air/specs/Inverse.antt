@@ -9,6 +9,7 @@ use lib.ListN.{drop}
 use lib.Signed.{leZ, ltZ}
 use Rattle.signed.specs.Zed.{eqZ}
 use Rattle.refusal.specs.Refusals.{Told, gives, refused, Line, _when_}
+use Rattle.air.specs.Limits.{lookPlaces}
 use Rattle.air.specs.Halving.{highest, halving, eleven}
 
 -- the value at T is at most the target
@@ -41,7 +42,7 @@ found v target = record { mk = pos (temperature v target); left = rest v target 
 
 -- the lent list of looks: eleven places are written by an answer, none by a refusal, and later places stay
 abbrev pub written : {A : Type 0} → Told A → List ℕ → List ℕ → List ℕ
-written (gives a) l before = eleven l ++ drop 11 before
+written (gives a) l before = eleven l ++ drop lookPlaces before
 written (refused r) l before = before
 
 -- a value that runs straight from each whole kelvin to the next, rising by `slope` with each mK

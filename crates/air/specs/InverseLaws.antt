@@ -13,6 +13,7 @@ use lib.ListN.{length}
 use lib.Signed.{_≤ℤ_, _<ℤ_}
 use Rattle.signed.specs.Zed.{up, dn, Is, is-pos, is-self, is-add, is-minus, same-by, le-by, lt-by, le-from, lt-from, leZ-true, leZ-false, lt-parts, le-parts, yes-leZ, no-leZ, eqZ, yes-eqZ, no-eqZ, zed}
 use Rattle.rows.specs.GrowthLaws.{grows}
+use Rattle.air.specs.Limits.{lookPlaces}
 use Rattle.air.specs.Halving.{highest, halving}
 use Rattle.air.specs.HalvingLaws.{highest-is, highest-passes, highest-least, highest-most, highest-above, Kept, kept, at-least-ten, at-most-eleven}
 use Rattle.air.specs.Inverse.{fits, temperature, rest, looks, Straight}
@@ -32,12 +33,12 @@ module _ (v : ℕ → ℤ) (t : ℤ) where
   looks-are h = rw (no-eqZ t (v 2000000) h) refl
 
   -- never more than eleven
-  pub looks-most : length (looks v t) ≤ 11
+  pub looks-most : length (looks v t) ≤ lookPlaces
   unfolding looks
   looks-most = by-bool (eqZ t (v 2000000)) (λ e. rw e (lit≤ tt)) (λ e. rw e (at-most-eleven (λ k. fits v t (1000 * k))))
 
   -- ten or eleven where there is a search
-  pub ten-or-eleven : t <ℤ v 2000000 → (10 ≤ length (looks v t)) × (length (looks v t) ≤ 11)
+  pub ten-or-eleven : t <ℤ v 2000000 → (10 ≤ length (looks v t)) × (length (looks v t) ≤ lookPlaces)
   ten-or-eleven h = rw (looks-are h) (at-least-ten (λ k. fits v t (1000 * k)), at-most-eleven (λ k. fits v t (1000 * k)))
 
   -- the row that is kept, of a target that is reached and not the last

@@ -7,6 +7,7 @@ use lib.IntN.{pos}
 use lib.ListN.{drop}
 use Rattle.signed.specs.Zed.{up}
 use Rattle.rows.specs.Table.{airPsi}
+use Rattle.air.specs.Limits.{lookPlaces}
 use Rattle.air.specs.declared.PsiAnswer.{PsiAnswer}
 use Rattle.air.specs.declared.PsiAnswer.the-variants.{At}
 use Rattle.air.specs.Halving.{eleven}
@@ -33,4 +34,4 @@ psiFound target = At (record { 0 = pos (temperature psiValue (pos target)) }) (u
 -- the answer and the lent list after the search
 pub record PsiSearched (target : ℕ) (before : List ℕ) (r : PsiAnswer) (after : List ℕ) : Type 0 where
   pub answer : r ≡ psiFound target
-  pub list : after ≡ eleven (looks psiValue (pos target)) ++ drop 11 before
+  pub list : after ≡ eleven (looks psiValue (pos target)) ++ drop lookPlaces before

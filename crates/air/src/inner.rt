@@ -7,6 +7,7 @@ ghost use lib.IntN.{pos};
 ghost use lib.ListN.{length, drop};
 ghost use Rattle.signed.specs.Zed.{inZ};
 ghost use Rattle.rows.specs.Table.{column};
+ghost use Rattle.air.specs.Limits.{lookPlaces};
 ghost use Rattle.air.specs.Readings.{reading, between, NeverFalls};
 
 // Whether the table covers a temperature.
@@ -45,12 +46,12 @@ pub fn thousandths(over: u64, slope: u64) -> u64
 }
 
 // Lays the looks of a search into the first eleven places of a lent list.
-pub fn lay(eleven: &[u32; 11], looks: &mut [u32])
-    requires { ⌜ (length (now eleven) ≡ 11) × (11 ≤ length (now looks)) ⌝ }
-    ensures { λ _. ⌜ now (looks .exit) ≡ now (eleven .entry) ++ drop 11 (now (looks .entry)) ⌝ }
+pub fn lay(eleven: &[u32; crate::LOOK_PLACES], looks: &mut [u32])
+    requires { ⌜ (length (now eleven) ≡ lookPlaces) × (lookPlaces ≤ length (now looks)) ⌝ }
+    ensures { λ _. ⌜ now (looks .exit) ≡ now (eleven .entry) ++ drop lookPlaces (now (looks .entry)) ⌝ }
 {
     let mut i = 0;
-    while i < 11 {
+    while i < crate::LOOK_PLACES {
         looks[i] = eleven[i];
         i += 1;
     }

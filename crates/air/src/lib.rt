@@ -24,6 +24,11 @@ pub enum PsiAnswer {
     Refused(Refusal),
 }
 
+// places for the looks of a search
+pub const LOOK_PLACES: usize = 11;
+// 15 °C in mK
+pub const FIFTEEN_DEGREES: i64 = 288160;
+
 // temperature outside range
 pub const TEMPERATURE: u32 = 6;
 // target below the value at 200 K
@@ -70,7 +75,7 @@ pub fn cp(kelvin: i64) -> Reading
 pub fn psi_inverse(target: i64, looks: &mut [u32]) -> PsiAnswer
     ensures { λ r. ⌜ PsiInverse target (now (looks .entry)) r (now (looks .exit)) ⌝ }
 {
-    if looks.len() < 11 {
+    if looks.len() < LOOK_PLACES {
         return PsiAnswer::Refused(Refusal::Plain(LIST_SHORT));
     }
     let column = rows::columns::psi_column();

@@ -9,12 +9,13 @@ ghost use lib.IntN.{pos};
 ghost use lib.ListN.{length};
 ghost use Rattle.rows.specs.Rows.{rowsPsi};
 ghost use Rattle.rows.specs.Table.{airPsi};
+ghost use Rattle.air.specs.Limits.{lookPlaces};
 ghost use Rattle.air.specs.Halving.{Room, Halved};
 ghost use Rattle.air.specs.Search.{psiFits, PsiRow, psiFound, PsiSearched};
 
 // The halving rule between lo and hi: the row that it keeps. The looks go into the list from `at` on.
-fn halve(lo: u64, hi: u64, target: u64, looks: &mut [u32; 11], at: usize, psi: &[u32; 1801]) -> u64
-    requires { ⌜ (200 ≤ lo) × (lo < hi) × (hi ≤ 2000) × (now psi ≡ rowsPsi) × (length (now looks) ≡ 11) × Room (psiFits target) lo hi at (now looks) ⌝ }
+fn halve(lo: u64, hi: u64, target: u64, looks: &mut [u32; crate::LOOK_PLACES], at: usize, psi: &[u32; 1801]) -> u64
+    requires { ⌜ (200 ≤ lo) × (lo < hi) × (hi ≤ 2000) × (now psi ≡ rowsPsi) × (length (now looks) ≡ lookPlaces) × Room (psiFits target) lo hi at (now looks) ⌝ }
     ensures { λ r. ⌜ Halved (psiFits target) lo hi at (now (looks .entry)) r (now (looks .exit)) ⌝ }
 {
     if hi <= lo + 1 {
@@ -42,10 +43,10 @@ fn divide(target: u64, row: u64, a: u64, b: u64) -> PsiAnswer
 
 // The answer to a target that the table reaches.
 pub(crate) fn psi_reached(target: u64, looks: &mut [u32], psi: &[u32; 1801]) -> PsiAnswer
-    requires { ⌜ (now psi ≡ rowsPsi) × (11 ≤ length (now looks)) × (1000 * airPsi 200 ≤ target) × (target ≤ 1000 * airPsi 2000) ⌝ }
+    requires { ⌜ (now psi ≡ rowsPsi) × (lookPlaces ≤ length (now looks)) × (1000 * airPsi 200 ≤ target) × (target ≤ 1000 * airPsi 2000) ⌝ }
     ensures { λ r. ⌜ PsiSearched target (now (looks .entry)) r (now (looks .exit)) ⌝ }
 {
-    let mut eleven = [0u32; 11];
+    let mut eleven = [0u32; crate::LOOK_PLACES];
     if target == 1000 * rows::figure(psi, 2000) {
         inner::lay(&eleven, looks);
         return PsiAnswer::At(Millikelvin(2000000), 0);

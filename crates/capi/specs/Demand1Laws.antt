@@ -22,8 +22,9 @@ use Rattle.gas.specs.declared.Charge.{Charge}
 use Rattle.gas.specs.Burning.{Weights, document01, gasOf}
 use Rattle.gas.specs.Heat.{gasHeat}
 use Rattle.gas.specs.Answers.{chargeLines, heatOrder, searchOrder, burnTold, heatTold, contentTold, specificTold}
+use Rattle.walk.specs.Limits.{stepNumbers}
 use Rattle.walk.specs.Lists.{Lists}
-use Rattle.walk.specs.Walk.{Trace, End, ended, cut, run, width, stepsOf, startLines, startState, walked, walkedInto, courseOf, course}
+use Rattle.walk.specs.Walk.{Trace, End, ended, cut, run, stepsOf, startLines, startState, walked, walkedInto, courseOf, course}
 use Rattle.marking.specs.Marking.{order as markOrder, marked}
 use Rattle.marking.specs.Figures.{stationTold}
 use Rattle.capi.specs.declared.SheetTold.{SheetTold}
@@ -130,7 +131,7 @@ module _ (lines : List Line) (w : Weights) (s : List ℕ) (start : Charge) (from
   order = lines ++ startLines w start from (length numbers) (length (before .temperatures)) (length (before .rests)) (length (before .looks))
 
   abbrev T : Trace
-  T = run w s (startState start from) (stepsOf (length numbers / width) numbers)
+  T = run w s (startState start from) (stepsOf (length numbers / stepNumbers) numbers)
 
   refused-start : (m : Line) → First order m → o ≡ flatUnbegun (lineNumber m) (lineRow m) (linePlaced m)
   unfolding walked

@@ -5,6 +5,7 @@ use mathlib.Core.Bool.{cond}
 use mathlib.Core.List.{List, [], _∷_, _++_}
 use mathlib.Core.Path.{_≡_}
 use lib.IntN.{ℤ}
+use Rattle.air.specs.Limits.{lookPlaces}
 use Rattle.text.specs.declared.Whole.{Whole}
 use Rattle.text.specs.declared.Whole.the-variants.{Is, Not}
 use Rattle.fields.specs.declared.Three.{Three}
@@ -40,7 +41,7 @@ abbrev pub airText : Reading → ℤ → List ℕ
 airText AirHeat mk = readingText (airHeatTold mk)
 airText AirPsi mk = readingText (psiTold mk)
 airText AirCp kelvin = readingText (cpTold kelvin)
-airText AirTemperature psi = inverseText (psiInverseTold 11 psi) (looks psiValue psi)
+airText AirTemperature psi = inverseText (psiInverseTold lookPlaces psi) (looks psiValue psi)
 
 -- what is asked of air
 abbrev pub airReply : Reading → Whole → List ℕ
@@ -57,7 +58,7 @@ abbrev pub gasText : Quantity → List ℕ → Charge → ℤ → List ℕ
 gasText Heat s charge mk = wholeText (heatTold document01 charge mk s)
 gasText Content s charge mk = wholeText (contentTold document01 charge mk s)
 gasText Specific s charge mk = wholeText (specificTold document01 charge mk s)
-gasText Temperature s charge target = inverseText (temperatureTold document01 charge target s 11) (looks (gasHeat document01 s (gasOf charge)) target)
+gasText Temperature s charge target = inverseText (temperatureTold document01 charge target s lookPlaces) (looks (gasHeat document01 s (gasOf charge)) target)
 gasText Station s charge mk =
     toldText figuresText (first (heatOrder document01 charge mk s) (record { mk = mk; specific = stationSpecific charge mk s; mass = stationMass charge }))
 

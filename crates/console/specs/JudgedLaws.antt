@@ -10,6 +10,8 @@ use lib.Dec.{ltb}
 use lib.IntN.{ℤ}
 use lib.ListN.{length, drop}
 use Rattle.signed.specs.Zed.{up}
+use Rattle.air.specs.Limits.{lookPlaces}
+use Rattle.walk.specs.Limits.{stepNumbers, mostSteps, mostLooks}
 use Rattle.fields.specs.Fields.{fieldsOf, holdsReturn, fourOf, valuesOf, countAll}
 use Rattle.fields.specs.declared.Four.{Four}
 use Rattle.fields.specs.declared.Four.the-variants.{Are, Not}
@@ -27,7 +29,7 @@ use Rattle.gas.specs.Heat.{gasHeat, contentAbove15, specificContent}
 use Rattle.gas.specs.Answers.{chargeLines, temperatureLines, heatOrder, searchOrder}
 use Rattle.air.specs.Inverse.{unreached, found, looks}
 use Rattle.marking.specs.Figures.{stationSpecific, stationMass}
-use Rattle.walk.specs.Walk.{run, width, stepsOf, startLines, startState, walked}
+use Rattle.walk.specs.Walk.{run, stepsOf, startLines, startState, walked}
 use Rattle.console.specs.declared.requests.Request.{Request}
 use Rattle.console.specs.declared.requests.Request.the-variants.{OfAir, Burn, OfGas, Walk, Mark, Unknown}
 use Rattle.console.specs.declared.requests.Quantity.{Quantity}
@@ -42,8 +44,8 @@ module _ {s : List ℕ} (accepted : Accepted s) (w : Weights) (ch : Charge) wher
   pub past-heat : (mk : ℤ) {t : Told Gas} → t ≡ first (chargeLines w ch ++ temperatureLines mk) (gasOf ch) → t ≡ first (heatOrder w ch mk s) (gasOf ch)
   past-heat mk e = e ∙ sym (past-sheet (chargeLines w ch ++ temperatureLines mk) (gasOf ch) accepted)
 
-  pub past-search : (places : ℕ) {t : Told Gas} → 11 ≤ places → t ≡ first (chargeLines w ch) (gasOf ch) → t ≡ first (searchOrder w ch s places) (gasOf ch)
-  past-search places h e = e ∙ sym (past-sheet (10 when ltb places 11 ∷ chargeLines w ch) (gasOf ch) accepted ∙ rw (le-ltb places 11 h) refl)
+  pub past-search : (places : ℕ) {t : Told Gas} → lookPlaces ≤ places → t ≡ first (chargeLines w ch) (gasOf ch) → t ≡ first (searchOrder w ch s places) (gasOf ch)
+  past-search places h e = e ∙ sym (past-sheet (10 when ltb places lookPlaces ∷ chargeLines w ch) (gasOf ch) accepted ∙ rw (le-ltb places lookPlaces h) refl)
 
 -- a sheet that was found good is accepted, whichever way
 pub judged-good : (s : List ℕ) → Judged Good s → Accepted s
@@ -75,13 +77,13 @@ module _ (s : List ℕ) (r : Refusal) (e : paper (Refused r) ≡ judgeTold s) wh
     gas-refused Specific = heat-refused (specificContent document01 s (gasOf ch) (up n))
     gas-refused Temperature =
         let v = gasHeat document01 s (gasOf ch) in
-        refusal-is (foundText (looks v n)) ((10 when ltb 11 11 ∷ chargeLines document01 ch) ++ unreached v n) (found v n)
+        refusal-is (foundText (looks v n)) ((10 when ltb lookPlaces lookPlaces ∷ chargeLines document01 ch) ++ unreached v n) (found v n)
     gas-refused Station = refusal-is figuresText (chargeLines document01 ch ++ temperatureLines n) (record { mk = n; specific = stationSpecific ch n s; mass = stationMass ch })
 
     pub walk-refused : (numbers : List ℤ) → walkTold (Refused r) s ch n numbers ≡ walkTold Good s ch n numbers
     unfolding walked
     walk-refused numbers =
-        sym (stopped-by-sheet s r (startLines document01 ch n (length numbers) 64 64 704) (run document01 s (startState ch n) (stepsOf (length numbers / width) numbers)) e)
+        sym (stopped-by-sheet s r (startLines document01 ch n (length numbers) mostSteps mostSteps mostLooks) (run document01 s (startState ch n) (stepsOf (length numbers / stepNumbers) numbers)) e)
 
   asked-refused : (q : Quantity) (numbers : Four) → gasReply q s (askedOf numbers (Refused r)) ≡ gasReply q s (askedOf numbers Good)
   asked-refused q (Are a c h n) = gas-refused (record { air = a; carbon = c; hydrogen = h }) n q

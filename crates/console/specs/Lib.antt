@@ -1,3 +1,4 @@
+pub mod Limits
 pub mod Requests
 pub mod Marks
 pub mod Walks

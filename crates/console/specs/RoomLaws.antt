@@ -1,5 +1,5 @@
--- No answer is longer than 8,192 bytes, for every line, every sheet list and every verdict whose refusal is brief (`Brief`), as all are that the judge or the reader gives, so none is cut where that much room is left: `answer-short`, `answer-whole`;
--- and a walk over a sheet found good is no longer than 4,096 when printed: `page-short`. A walk of 64 steps is the longest: 100 bytes a step, and its course. Assumes nothing.
+-- No answer is longer than `answerRoom`, for every line, every sheet list and every verdict whose refusal is brief (`Brief`), as all are that the judge or the reader gives, so none is cut where that much room is left: `answer-short`, `answer-whole`;
+-- and a walk over a sheet found good is no longer than `pageRoom` when printed: `page-short`. The longest walk has 100 bytes a step, and its course. Assumes nothing.
 use Prim.Native.Nat.{ℕ, zero, suc, _+_, _-_, _*_, _/_, _%_, _≤_, _<_}
 use mathlib.Core.Path.{_≡_, refl, sym, ap, subst}
 use mathlib.Core.Bool.{Bool, true, false, not, _&&_, cond}
@@ -12,6 +12,7 @@ use lib.IntN.{ℤ, pos, negsuc, _-ℤ_}
 use lib.ListN.{length, drop, getD, length-append}
 use lib.Signed.{ltZ, _≤ℤ_}
 use Rattle.signed.specs.Zed.{up, dn, outside, in-range, inZ, eqZ, is-self, is-pos, is-minus, apart, le-parts, le-from, ltZ-false, no-ltZ, zed}
+use Rattle.air.specs.Limits.{lookPlaces}
 use Rattle.text.specs.Decimal.{decimal, decimalZ}
 use Rattle.text.specs.DecimalLaws.{one-digit, last-digit}
 use Rattle.text.specs.Put.{Put}
@@ -20,6 +21,7 @@ use Rattle.text.specs.declared.Whole.the-variants.{Is, Not}
 use Rattle.rows.specs.Rows.{rowsCp}
 use Rattle.rows.specs.Table.{column, airH, airCp, airPsi}
 use Rattle.rows.specs.TableLaws.{H-most, psi-most}
+use Rattle.walk.specs.Limits.{mostSteps, mostLooks, mostNumbers, stepNumbers}
 use Rattle.fields.specs.Fields.{fieldsOf, holdsReturn, oneOf, twoOf, threeOf, fourOf, valuesOf, countAll}
 use Rattle.fields.specs.declared.Two.{Two}
 use Rattle.fields.specs.declared.Two.the-variants.{Are as AreTwo, Not as NotTwo}
@@ -65,6 +67,7 @@ use Rattle.marking.specs.Figures.{stationSpecific, stationMass}
 use Rattle.marking.specs.Marking.{order, counts}
 use Rattle.marking.specs.declared.Typed.{Typed}
 use Rattle.marking.specs.declared.Typed.the-variants.{Blank as TypedBlank}
+use Rattle.console.specs.Limits.{startNumbers, replyRoom, answerRoom, pageRoom}
 use Rattle.console.specs.declared.marks.Kind.{Kind}
 use Rattle.console.specs.declared.marks.Kind.the-variants.{Kelvins, Content as KindContent, Blank, Unknown as KindUnknown}
 use Rattle.console.specs.declared.requests.Quantity.{Quantity}
@@ -241,18 +244,18 @@ cp-low k = go (ltb k 200)
     go true = lit< tt
     go false = low-at rowsCp (k - 200) cps-low
 
-short-air-heat : (mk : ℤ) → length (airText AirHeat mk) ≤ 8191
+short-air-heat : (mk : ℤ) → length (airText AirHeat mk) ≤ replyRoom
 unfolding airHeat
-short-air-heat mk = told-most (λ n. okText ++ (9 ∷ decimal n)) 8191 (temperatureLines mk) (airHeat (up mk)) (lit≤ tt) (plain (lit< tt) few-none)
+short-air-heat mk = told-most (λ n. okText ++ (9 ∷ decimal n)) replyRoom (temperatureLines mk) (airHeat (up mk)) (lit≤ tt) (plain (lit< tt) few-none)
     (λ c. omega (arith, number-most (airHeat (up mk)) (omega (arith, between-most airH 53789 H-most (up mk)))))
 
-short-air-psi : (mk : ℤ) → length (airText AirPsi mk) ≤ 8191
+short-air-psi : (mk : ℤ) → length (airText AirPsi mk) ≤ replyRoom
 unfolding airPsiAt
-short-air-psi mk = told-most (λ n. okText ++ (9 ∷ decimal n)) 8191 (temperatureLines mk) (airPsiAt (up mk)) (lit≤ tt) (plain (lit< tt) few-none)
+short-air-psi mk = told-most (λ n. okText ++ (9 ∷ decimal n)) replyRoom (temperatureLines mk) (airPsiAt (up mk)) (lit≤ tt) (plain (lit< tt) few-none)
     (λ c. omega (arith, number-most (airPsiAt (up mk)) (omega (arith, between-most airPsi 133151 psi-most (up mk)))))
 
-short-air-cp : (k : ℤ) → length (airText AirCp k) ≤ 8191
-short-air-cp k = told-most (λ n. okText ++ (9 ∷ decimal n)) 8191 (6 when outside (pos 200) (pos 2000) k ∷ []) (airCp (up k)) (lit≤ tt) (plain (lit< tt) few-none)
+short-air-cp : (k : ℤ) → length (airText AirCp k) ≤ replyRoom
+short-air-cp k = told-most (λ n. okText ++ (9 ∷ decimal n)) replyRoom (6 when outside (pos 200) (pos 2000) k ∷ []) (airCp (up k)) (lit≤ tt) (plain (lit< tt) few-none)
     (λ c. omega (arith, row-most (airCp (up k)) (cp-low (up k))))
 
 psi-at-most : (T : ℕ) → airPsiAt T ≤ 266302000
@@ -290,14 +293,14 @@ ends v t (clear a (clear b n)) = (a, b)
 tail-clear : {l : Line} {ls : List Line} → Clear (l ∷ ls) → Clear ls
 tail-clear (clear e c) = c
 
-short-air-temperature : (t : ℤ) → length (airText AirTemperature t) ≤ 8191
-short-air-temperature t = told-most (foundText (looks psiValue t)) 8191 (psiOrder 11 t) (found psiValue t) (lit≤ tt) (plain (lit< tt) (plain (lit< tt) (plain (lit< tt) few-none)))
+short-air-temperature : (t : ℤ) → length (airText AirTemperature t) ≤ replyRoom
+short-air-temperature t = told-most (foundText (looks psiValue t)) replyRoom (psiOrder lookPlaces t) (found psiValue t) (lit≤ tt) (plain (lit< tt) (plain (lit< tt) (plain (lit< tt) few-none)))
     (λ c. let e = ends psiValue t (tail-clear c) in omega (arith, found-most psiValue t (e .0) (e .1) (λ T a b. most T) (λ T a b. omega arith)))
   where
     most : (T : ℕ) → airPsiAt T ≤ 2000000000000000000
     most T = omega (arith, psi-at-most T)
 
-short-air : (reading : Reading) (n : Whole) → length (airReply reading n) ≤ 8191
+short-air : (reading : Reading) (n : Whole) → length (airReply reading n) ≤ replyRoom
 short-air AirHeat (Is mk) = short-air-heat mk
 short-air AirPsi (Is mk) = short-air-psi mk
 short-air AirCp (Is k) = short-air-cp k
@@ -305,13 +308,13 @@ short-air AirTemperature (Is t) = short-air-temperature t
 short-air reading Not = lit≤ tt
 
 -- ---- a gas
-short-burn : (n : Three) → length (burnText n) ≤ 8191
+short-burn : (n : Three) → length (burnText n) ≤ replyRoom
 unfolding products oxygenUsed
 short-burn (AreThree a c h) = go (record { air = a; carbon = c; hydrogen = h })
   where
-    go : (ch : Charge) → length (burntText (burnTold document01 ch)) ≤ 8191
+    go : (ch : Charge) → length (burntText (burnTold document01 ch)) ≤ replyRoom
     go ch =
-        told-most productsText 8191 (chargeLines document01 ch) (products document01 (gasOf ch)) (lit≤ tt) (plain (lit< tt) (plain (lit< tt) few-none))
+        told-most productsText replyRoom (chargeLines document01 ch) (products document01 (gasOf ch)) (lit≤ tt) (plain (lit< tt) (plain (lit< tt) few-none))
         (λ q.
         let b = burns-of document01 ch q .limits in
         let g = gasOf ch in
@@ -327,7 +330,7 @@ short-burn (AreThree a c h) = go (record { air = a; carbon = c; hydrogen = h })
         )))
 short-burn NotThree = lit≤ tt
 
-value-most : (z : ℤ) → Narrow z → length (valueText z) ≤ 8191
+value-most : (z : ℤ) → Narrow z → length (valueText z) ≤ replyRoom
 value-most z h = omega (arith, field-most z h)
 
 module _ (s : List ℕ) (ch : Charge) (n : ℤ) where
@@ -360,32 +363,32 @@ module _ (s : List ℕ) (ch : Charge) (n : ℤ) where
         mk = record { above = omega arith; below = omega (arith, apart n) };
       }
 
-  told-short : {A : Type 0} (values : A → List ℕ) (a : A) → (Bounded → length (values a) ≤ 8191) → length (toldText values (first (heatOrder document01 ch n s) a)) ≤ 8191
-  told-short values a h = told-most values 8191 (heatOrder document01 ch n s) a (lit≤ tt) (few-heat document01 ch n s) (λ c. h (bounded c))
+  told-short : {A : Type 0} (values : A → List ℕ) (a : A) → (Bounded → length (values a) ≤ replyRoom) → length (toldText values (first (heatOrder document01 ch n s) a)) ≤ replyRoom
+  told-short values a h = told-most values replyRoom (heatOrder document01 ch n s) a (lit≤ tt) (few-heat document01 ch n s) (λ c. h (bounded c))
 
-  short-station : length (gasText Station s ch n) ≤ 8191
+  short-station : length (gasText Station s ch n) ≤ replyRoom
   short-station =
       told-short figuresText (record { mk = n; specific = stationSpecific ch n s; mass = stationMass ch })
       (λ b.
       simp length-append
       (omega (arith, field-most n (b .mk), field-most (stationSpecific ch n s) (b .specific), number-most (totalMass document01 (gasOf ch)) (b .mass))))
 
-  short-temperature : length (gasText Temperature s ch n) ≤ 8191
+  short-temperature : length (gasText Temperature s ch n) ≤ replyRoom
   short-temperature =
       let v = gasHeat document01 s (gasOf ch) in
-      told-most (foundText (looks v n)) 8191 (searchOrder document01 ch s 11 ++ unreached v n) (found v n) (lit≤ tt)
+      told-most (foundText (looks v n)) replyRoom (searchOrder document01 ch s lookPlaces ++ unreached v n) (found v n) (lit≤ tt)
       (few-append (few-append (few-sheet s) (plain (lit< tt) (plain (lit< tt) (plain (lit< tt) few-none)))) (plain (lit< tt) (plain (lit< tt) few-none)))
       (λ c.
-      let q = clear-left (searchOrder document01 ch s 11) (unreached v n) c in
-      let e = ends v n (clear-right (searchOrder document01 ch s 11) (unreached v n) c) in
-      let k = accepted-of-told s (values-given tt (clear-left (sheetLines s) (10 when ltb 11 11 ∷ chargeLines document01 ch) q)) in
-      let b = burns-of document01 ch (tail-clear (clear-right (sheetLines s) (10 when ltb 11 11 ∷ chargeLines document01 ch) q)) in
+      let q = clear-left (searchOrder document01 ch s lookPlaces) (unreached v n) c in
+      let e = ends v n (clear-right (searchOrder document01 ch s lookPlaces) (unreached v n) c) in
+      let k = accepted-of-told s (values-given tt (clear-left (sheetLines s) (10 when ltb lookPlaces lookPlaces ∷ chargeLines document01 ch) q)) in
+      let b = burns-of document01 ch (tail-clear (clear-right (sheetLines s) (10 when ltb lookPlaces lookPlaces ∷ chargeLines document01 ch) q)) in
       omega (
         arith,
         found-most v n (e .0) (e .1) (λ T l u. omega (arith, gas-heat-most b k T l u)) (λ T l u. omega (arith, gas-heat-least b k T l u)),
       ))
 
-  short-of : (q : Quantity) → length (gasText q s ch n) ≤ 8191
+  short-of : (q : Quantity) → length (gasText q s ch n) ≤ replyRoom
   short-of Heat = told-short valueText (gasHeat document01 s (gasOf ch) (up n)) (λ b. value-most _ (b .heat))
   short-of Content = told-short valueText (contentAbove15 document01 s (gasOf ch) (up n)) (λ b. value-most _ (b .content))
   short-of Specific = told-short valueText (specificContent document01 s (gasOf ch) (up n)) (λ b. value-most _ (b .specific))
@@ -395,7 +398,7 @@ module _ (s : List ℕ) (ch : Charge) (n : ℤ) where
 -- a verdict whose refusal, if it is one, is no longer than that
 abbrev pub Brief : SheetAnswer → Type 0
 Brief Good = Unit {0}
-Brief (SheetRefused r) = length (refusalText r) ≤ 8191
+Brief (SheetRefused r) = length (refusalText r) ≤ replyRoom
 
 brief-told : (ls : List Line) → Few ls → (verdict : SheetAnswer) → paper verdict ≡ first ls tt → Brief verdict
 brief-told ls f Good e = tt
@@ -414,35 +417,35 @@ read-brief {text} {before} verdict r =
     row-few (sheetOf numbers s) e = lit< tt
     row-few (noSheet i b) e = omega (arith, bad-row-most text i b)
 
-short-quantity : (verdict : SheetAnswer) → Brief verdict → (s : List ℕ) (q : Quantity) (numbers : Four) → length (gasReply q s (askedOf numbers verdict)) ≤ 8191
+short-quantity : (verdict : SheetAnswer) → Brief verdict → (s : List ℕ) (q : Quantity) (numbers : Four) → length (gasReply q s (askedOf numbers verdict)) ≤ replyRoom
 short-quantity Good b s q (AreFour a c h n) = short-of s (record { air = a; carbon = c; hydrogen = h }) n q
 short-quantity (SheetRefused r) b s q (AreFour a c h n) = b
 short-quantity verdict b s q NotFour = lit≤ tt
 
 -- ---- marks
-short-marked : (x : Typed) (n : Two) → length (markedText x n) ≤ 8191
-short-marked x (AreTwo key window) = told-most verdictText 8191 (order x key window) (counts x key window) (lit≤ tt) (plain (lit< tt) (plain (lit< tt) few-none)) (λ c. verdict (counts x key window))
+short-marked : (x : Typed) (n : Two) → length (markedText x n) ≤ replyRoom
+short-marked x (AreTwo key window) = told-most verdictText replyRoom (order x key window) (counts x key window) (lit≤ tt) (plain (lit< tt) (plain (lit< tt) few-none)) (λ c. verdict (counts x key window))
   where
-    verdict : (b : Bool) → length (verdictText b) ≤ 8191
+    verdict : (b : Bool) → length (verdictText b) ≤ replyRoom
     verdict true = lit≤ tt
     verdict false = lit≤ tt
 short-marked x NotTwo = lit≤ tt
 
-short-number : (kelvins : Bool) (x : Number) (fs : List (List ℕ)) → length (numberText kelvins x fs) ≤ 8191
+short-number : (kelvins : Bool) (x : Number) (fs : List (List ℕ)) → length (numberText kelvins x fs) ≤ replyRoom
 short-number kelvins (IsNumber x) fs = short-marked (inUnit kelvins x) (twoOf fs)
 short-number kelvins NoNumber fs = lit≤ tt
 
-short-typed : (kelvins : Bool) (fs : List (List ℕ)) → length (typedText kelvins fs) ≤ 8191
+short-typed : (kelvins : Bool) (fs : List (List ℕ)) → length (typedText kelvins fs) ≤ replyRoom
 short-typed kelvins [] = lit≤ tt
 short-typed kelvins (x ∷ fs) = short-number kelvins (numberOf x) fs
 
-short-kind : (k : Kind) (fs : List (List ℕ)) → length (kindText k fs) ≤ 8191
+short-kind : (k : Kind) (fs : List (List ℕ)) → length (kindText k fs) ≤ replyRoom
 short-kind Kelvins fs = short-typed true fs
 short-kind KindContent fs = short-typed false fs
 short-kind Blank fs = short-marked TypedBlank (twoOf fs)
 short-kind KindUnknown fs = lit≤ tt
 
-short-mark : (fs : List (List ℕ)) → length (markRequest fs) ≤ 8191
+short-mark : (fs : List (List ℕ)) → length (markRequest fs) ≤ replyRoom
 short-mark [] = lit≤ tt
 short-mark (k ∷ fs) = short-kind (kindOf k) fs
 
@@ -520,7 +523,7 @@ module _ {s : List ℕ} (ok : Accepted s) where
 steps-length : (n : ℕ) (l : List ℤ) → length (stepsOf n l) ≡ n
 unfolding stepsOf
 steps-length zero l = refl
-steps-length (suc n) l = ap suc (steps-length n (drop 4 l))
+steps-length (suc n) l = ap suc (steps-length n (drop stepNumbers l))
 
 steps-most : {os : List Out} → AllModest os → (i : ℕ) → length (stepsText InLine i os) ≤ 100 * length os
 steps-most none-done i = omega arith
@@ -536,51 +539,51 @@ state-most st h =
     simp length-append
     (omega (arith, number-most (g .air) (omega arith), number-most (g .carbon) (omega arith), number-most (g .hydrogen) (omega arith), number-most (st .mk) (omega arith)))
 
-course-most : (n : ℕ) (e : End) → n ≤ 64 → Ends e → length (courseText (courseOf n e)) ≤ 200
+course-most : (n : ℕ) (e : End) → n ≤ mostSteps → Ends e → length (courseText (courseOf n e)) ≤ 200
 course-most n (ended st) h (at-last k) = simp length-append (omega (arith, small-most n (omega arith), simp length-append at (state-most st k)))
 course-most n (cut m st) h (at-step l k) = simp length-append (omega (arith, small-most n (omega arith), small-most m l, simp length-append at (state-most st k)))
 
 module _ (s : List ℕ) (ch : Charge) (mk : ℤ) (numbers : List ℤ) where
   abbrev lines : List Line
-  lines = sheetLines s ++ startLines document01 ch mk (length numbers) 64 64 704
+  lines = sheetLines s ++ startLines document01 ch mk (length numbers) mostSteps mostSteps mostLooks
 
   abbrev course-of : Trace
-  course-of = run document01 s (startState ch mk) (stepsOf (length numbers / 4) numbers)
+  course-of = run document01 s (startState ch mk) (stepsOf (length numbers / stepNumbers) numbers)
 
-  began : Clear lines → Runs 64 course-of
+  began : Clear lines → Runs mostSteps course-of
   began c =
-      let r = clear-right (sheetLines s) (startLines document01 ch mk (length numbers) 64 64 704) c in
-      let k = accepted-of-told s (values-given tt (clear-left (sheetLines s) (startLines document01 ch mk (length numbers) 64 64 704) c)) in
+      let r = clear-right (sheetLines s) (startLines document01 ch mk (length numbers) mostSteps mostSteps mostLooks) c in
+      let k = accepted-of-told s (values-given tt (clear-left (sheetLines s) (startLines document01 ch mk (length numbers) mostSteps mostSteps mostLooks) c)) in
       let q = clear-right (chargeLines document01 ch) (temperatureLines mk) (tail-clear (tail-clear r)) in
       let b = burns-of document01 ch (clear-left (chargeLines document01 ch) (temperatureLines mk) (tail-clear (tail-clear r))) in
       let i = in-range (pos 200000) (pos 2000000) mk (covered q) in
-      let m = run-modest k (stepsOf (length numbers / 4) numbers) (startState ch mk) (record { limits = b .limits; warm = omega (zed, apart mk) }) in
-      record { outs = m .outs; end = m .end; count = let y = m .count in omega (arith, steps-length (length numbers / 4) numbers, few r) }
+      let m = run-modest k (stepsOf (length numbers / stepNumbers) numbers) (startState ch mk) (record { limits = b .limits; warm = omega (zed, apart mk) }) in
+      record { outs = m .outs; end = m .end; count = let y = m .count in omega (arith, steps-length (length numbers / stepNumbers) numbers, few r) }
     where
       covered : Clear (temperatureLines mk) → inZ (pos 200000) (pos 2000000) mk ≡ true
       covered (clear h n) = not-false _ h
 
-      few : Clear (startLines document01 ch mk (length numbers) 64 64 704) → length numbers ≤ 256
-      few (clear e c) = ltb-false 256 (length numbers) (neither (not (eqb (length numbers % 4) 0)) (ltb 256 (length numbers)) e .1)
+      few : Clear (startLines document01 ch mk (length numbers) mostSteps mostSteps mostLooks) → length numbers ≤ mostNumbers
+      few (clear e c) = ltb-false mostNumbers (length numbers) (neither (not (eqb (length numbers % stepNumbers) 0)) (ltb mostNumbers (length numbers)) e .1)
 
   few-lines : Few lines
   few-lines = few-append (few-sheet s) (plain (lit< tt) (plain (lit< tt) (plain (lit< tt) (plain (lit< tt) (plain (lit< tt) few-none)))))
 
-  short-told : (x : Told Trace) → first lines course-of ≡ x → length (walkText x) ≤ 8191
+  short-told : (x : Told Trace) → first lines course-of ≡ x → length (walkText x) ≤ replyRoom
   unfolding walkText
   short-told (gives t) e =
       let c = gives-clear lines {a = course-of} {b = t} e in
-      let r : Runs 64 t = rw (← c .1) (began (c .0)) in
+      let r : Runs mostSteps t = rw (← c .1) (began (c .0)) in
       let n = r .count in
       simp length-append (omega (arith, course-most (length (t .outs)) (t .end) n (r .end), steps-most (r .outs) 1))
   short-told (refused r) e = simp length-append (omega (arith, refusal-most r (small-told lines course-of few-lines e)))
 
-  short-walk : length (walkText (walkTold Good s ch mk numbers)) ≤ 8191
+  short-walk : length (walkText (walkTold Good s ch mk numbers)) ≤ replyRoom
   unfolding walked
   short-walk = short-told (first lines course-of) refl
 
 -- ---- a printed walk
-lines-most : {os : List Out} → AllModest os → (i : ℕ) → i + length os ≤ 65 → length (stepsText Page i os) ≤ 50 * length os
+lines-most : {os : List Out} → AllModest os → (i : ℕ) → i + length os ≤ suc mostSteps → length (stepsText Page i os) ≤ 50 * length os
 lines-most none-done i h = omega arith
 lines-most (one-more {o} {os} m k) i h =
     let n : length (o .seen) < 100 = m .few in
@@ -599,50 +602,50 @@ end-most n (ended st) (at-last k) = omega arith
 end-most n (cut m st) (at-step l k) = simp length-append (omega (arith, small-most m l))
 
 module _ (s : List ℕ) (ch : Charge) (mk : ℤ) (numbers : List ℤ) where
-  page-told : (x : Told Trace) → first (lines s ch mk numbers) (course-of s ch mk numbers) ≡ x → length (printedWalk x) ≤ 4096
+  page-told : (x : Told Trace) → first (lines s ch mk numbers) (course-of s ch mk numbers) ≡ x → length (printedWalk x) ≤ pageRoom
   unfolding printedWalk
   page-told (gives t) e =
       let c = gives-clear (lines s ch mk numbers) {a = course-of s ch mk numbers} {b = t} e in
-      let r : Runs 64 t = rw (← c .1) (began s ch mk numbers (c .0)) in
+      let r : Runs mostSteps t = rw (← c .1) (began s ch mk numbers (c .0)) in
       let n = r .count in
       simp length-append (omega (arith, end-most (length (t .outs)) (t .end) (r .end), lines-most (r .outs) 1 (omega arith)))
   page-told (refused r) e =
       let h = number-small r (small-told (lines s ch mk numbers) (course-of s ch mk numbers) (few-lines s ch mk numbers) e) in
       simp length-append (omega (arith, small-most (refusalNumber r) h))
 
-  -- no printed walk is longer than 4,096 bytes
-  pub page-short : length (printedWalk (walkTold Good s ch mk numbers)) ≤ 4096
+  -- no printed walk is longer
+  pub page-short : length (printedWalk (walkTold Good s ch mk numbers)) ≤ pageRoom
   unfolding walked
   page-short = page-told (first (lines s ch mk numbers) (course-of s ch mk numbers)) refl
 
-short-walk-of : (verdict : SheetAnswer) → Brief verdict → (s : List ℕ) (n : Four) (zs : List ℤ) → length (walkOf verdict s n zs) ≤ 8191
+short-walk-of : (verdict : SheetAnswer) → Brief verdict → (s : List ℕ) (n : Four) (zs : List ℤ) → length (walkOf verdict s n zs) ≤ replyRoom
 unfolding walkText
 short-walk-of Good b s (AreFour a c h n) zs = short-walk s (record { air = a; carbon = c; hydrogen = h }) n zs
-short-walk-of (SheetRefused r) b s (AreFour a c h n) zs = subst (λ (l : List ℕ). length l ≤ 8191) (sym (append-nil (refusalText r))) b
+short-walk-of (SheetRefused r) b s (AreFour a c h n) zs = subst (λ (l : List ℕ). length l ≤ replyRoom) (sym (append-nil (refusalText r))) b
 short-walk-of verdict b s NotFour zs = lit≤ tt
 
 -- ---- an answer
 module _ (verdict : SheetAnswer) (b : Brief verdict) (s : List ℕ) where
-  short-reply : (q : Request) (fs : List (List ℕ)) → length (replyText verdict s q fs) ≤ 8191
+  short-reply : (q : Request) (fs : List (List ℕ)) → length (replyText verdict s q fs) ≤ replyRoom
   short-reply (OfAir reading) fs = short-air reading (oneOf fs)
   short-reply Burn fs = short-burn (threeOf fs)
   short-reply (OfGas q) fs = short-quantity verdict b s q (fourOf fs)
-  short-reply Walk fs = short-walk-of verdict b s (startOf (countAll 0 fs) (valuesOf fs)) (drop 4 (valuesOf fs))
+  short-reply Walk fs = short-walk-of verdict b s (startOf (countAll 0 fs) (valuesOf fs)) (drop startNumbers (valuesOf fs))
   short-reply Mark fs = short-mark fs
   short-reply Unknown fs = lit≤ tt
 
-  short-fields : (fs : List (List ℕ)) → length (answerFields verdict s fs ++ (10 ∷ [])) ≤ 8192
+  short-fields : (fs : List (List ℕ)) → length (answerFields verdict s fs ++ (10 ∷ [])) ≤ answerRoom
   short-fields [] = lit≤ tt
   short-fields (w ∷ fs) = omega (arith, length-append (replyText verdict s (requestOf w) fs) (10 ∷ []), short-reply (requestOf w) fs)
 
-  short-line : (line : List ℕ) (returned : Bool) → length (cond returned returnText (answerFields verdict s (fieldsOf line)) ++ (10 ∷ [])) ≤ 8192
+  short-line : (line : List ℕ) (returned : Bool) → length (cond returned returnText (answerFields verdict s (fieldsOf line)) ++ (10 ∷ [])) ≤ answerRoom
   short-line line true = lit≤ tt
   short-line line false = short-fields (fieldsOf line)
 
-  pub answer-short : (line : List ℕ) → length (answerOf verdict s line) ≤ 8192
+  pub answer-short : (line : List ℕ) → length (answerOf verdict s line) ≤ answerRoom
   unfolding answerOf lineText
   answer-short line = short-line line (holdsReturn line)
 
   -- with that much room the place after the answer is the answer's length further on: nothing is cut
-  pub answer-whole : (line before later : List ℕ) (at after : ℕ) → at + 8192 ≤ length before → Put (answerOf verdict s line) before at after later → after ≡ at + length (answerOf verdict s line)
+  pub answer-whole : (line before later : List ℕ) (at after : ℕ) → at + answerRoom ≤ length before → Put (answerOf verdict s line) before at after later → after ≡ at + length (answerOf verdict s line)
   answer-whole line before later at after h p = omega (arith, answer-short line, p .next-is)

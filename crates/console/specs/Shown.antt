@@ -5,6 +5,7 @@ use mathlib.Core.List.{List, [], _++_}
 use lib.IntN.{ℤ, pos}
 use lib.ListN.{length, take, drop, getD}
 use Rattle.refusal.specs.Refusals.{Told, gives, refused}
+use Rattle.air.specs.Limits.{lookPlaces}
 use Rattle.walk.specs.Walk.{Trace, Course, done, stopped}
 use Rattle.console.specs.declared.walks.Layout.{Layout}
 use Rattle.console.specs.declared.walks.Layout.the-variants.{Line, Page}
@@ -20,7 +21,7 @@ stepsIn (refused r) = 0
 -- n steps from the first places of the lists, numbered from i on
 unfoldable pub shown : Layout → ℕ → ℕ → List ℤ → List ℤ → List ℕ → List ℕ
 shown layout i zero t r l = []
-shown layout i (suc n) t r l = stepText layout i (getD t 0 (pos 0)) (getD r 0 (pos 0)) (used (take 11 l)) ++ shown layout (suc i) n (drop 1 t) (drop 1 r) (drop 11 l)
+shown layout i (suc n) t r l = stepText layout i (getD t 0 (pos 0)) (getD r 0 (pos 0)) (used (take lookPlaces l)) ++ shown layout (suc i) n (drop 1 t) (drop 1 r) (drop lookPlaces l)
 
 -- a walk from what it tells and the lists
 abbrev pub walkShown : Layout → Told Course → List ℤ → List ℤ → List ℕ → List ℕ
@@ -35,4 +36,4 @@ layoutText Page told = printedWalk told
 pub record Holds (n : ℕ) (t r : List ℤ) (l : List ℕ) : Type 0 where
   pub temperatures : n ≤ length t
   pub rests : n ≤ length r
-  pub looks : 11 * n ≤ length l
+  pub looks : lookPlaces * n ≤ length l

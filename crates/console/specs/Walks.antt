@@ -8,6 +8,7 @@ use lib.Dec.{leb}
 use lib.IntN.{ℤ, pos}
 use lib.ListN.{length, drop, getD}
 use Rattle.text.specs.Decimal.{decimal, decimalZ}
+use Rattle.walk.specs.Limits.{mostSteps, mostLooks}
 use Rattle.fields.specs.declared.Numbers.{Numbers}
 use Rattle.fields.specs.declared.Numbers.the-variants.{Count, Bad}
 use Rattle.fields.specs.declared.Four.{Four}
@@ -21,14 +22,15 @@ use Rattle.gas.specs.declared.Charge.{Charge}
 use Rattle.gas.specs.Burning.{document01}
 use Rattle.walk.specs.Step.{Out}
 use Rattle.walk.specs.Walk.{Trace, Course, done, stopped, walked, course, outsOf}
+use Rattle.console.specs.Limits.{startNumbers}
 use Rattle.console.specs.declared.walks.Layout.{Layout}
 use Rattle.console.specs.declared.walks.Layout.the-variants.{Line, Page}
 use Rattle.wording.specs.Texts.{refusedText, toldText, countedText, courseText}
 use Rattle.console.specs.Requests.{misfitText}
 
--- a walk with lists for 64 steps, over a sheet list and the verdict that it was given when it was read
+-- a walk with lists for the longest, over a sheet list and the verdict that it was given when it was read
 abbrev pub walkTold : SheetAnswer → List ℕ → Charge → ℤ → List ℤ → Told Trace
-walkTold Good s ch mk numbers = walked (sheetLines s) document01 s ch mk numbers 64 64 704
+walkTold Good s ch mk numbers = walked (sheetLines s) document01 s ch mk numbers mostSteps mostSteps mostLooks
 walkTold (Refused r) s ch mk numbers = refused r
 
 -- a step in a line: mK, rest, number of looks, the looks
@@ -54,7 +56,7 @@ walkText told = toldText courseText (course told) ++ stepsText Line 1 (outsOf to
 
 -- walk A c h mK n1 n2 ..: the first four numbers are the start, those after them the steps
 abbrev pub startOf : Numbers → List ℤ → Four
-startOf (Count n) zs = cond (leb 4 n) (Are (getD zs 0 (pos 0)) (getD zs 1 (pos 0)) (getD zs 2 (pos 0)) (getD zs 3 (pos 0))) Not
+startOf (Count n) zs = cond (leb startNumbers n) (Are (getD zs 0 (pos 0)) (getD zs 1 (pos 0)) (getD zs 2 (pos 0)) (getD zs 3 (pos 0))) Not
 startOf Bad zs = Not
 
 abbrev pub walkOf : SheetAnswer → List ℕ → Four → List ℤ → List ℕ
@@ -62,7 +64,7 @@ walkOf verdict s (Are air carbon hydrogen mk) numbers = walkText (walkTold verdi
 walkOf verdict s Not numbers = misfitText
 
 abbrev pub walkRequest : SheetAnswer → List ℕ → List (List ℕ) → List ℕ
-walkRequest verdict s fs = walkOf verdict s (startOf (countAll 0 fs) (valuesOf fs)) (drop 4 (valuesOf fs))
+walkRequest verdict s fs = walkOf verdict s (startOf (countAll 0 fs) (valuesOf fs)) (drop startNumbers (valuesOf fs))
 
 -- ---- the printed walk
 -- step, mK, rest, looks, parted by tabs, and a line feed

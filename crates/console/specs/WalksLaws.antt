@@ -12,8 +12,10 @@ use lib.IntN.{ℤ, pos}
 use lib.ListN.{length, take, drop, getD, set, length-append, length-take, length-drop, length-set, length-map}
 use lib.Seq.{sets, sets-eq, length-sets, take-at, drop-at, drop-append-le, getD-drop, drop-drop, getD-set-same, getD-set-other}
 use lib.Dec.{eqb, lit<}
+use Rattle.air.specs.Limits.{lookPlaces}
 use Rattle.text.specs.Put.{Put}
 use Rattle.text.specs.PutLaws.{put-none, put-then}
+use Rattle.walk.specs.Limits.{stepNumbers, mostSteps, mostLooks, mostNumbers}
 use Rattle.fields.specs.declared.Numbers.{Numbers}
 use Rattle.fields.specs.declared.Numbers.the-variants.{Count, Bad}
 use Rattle.fields.specs.Fields.{valuesOf, countAll, Stored, heldOf}
@@ -37,8 +39,9 @@ use Rattle.walk.specs.declared.WalkAnswer.{WalkAnswer}
 use Rattle.walk.specs.declared.WalkAnswer.the-variants.{Refused}
 use Rattle.walk.specs.Lists.{Lists, lists, laid}
 use Rattle.walk.specs.Step.{State, Out}
-use Rattle.walk.specs.Walk.{Trace, End, ended, cut, run, width, stepsOf, wrongSteps, startLines, startState, walked, Course, courseOf, course, outsOf, temperaturesOf, restsOf, looksOf, paperWalk, Walks}
+use Rattle.walk.specs.Walk.{Trace, End, ended, cut, run, stepsOf, wrongSteps, startLines, startState, walked, Course, courseOf, course, outsOf, temperaturesOf, restsOf, looksOf, paperWalk, Walks}
 use Rattle.walk.specs.RunLaws.{step-done, of-run}
+use Rattle.console.specs.Limits.{heldNumbers, startNumbers}
 use Rattle.console.specs.declared.walks.Layout.{Layout}
 use Rattle.console.specs.declared.walks.Layout.the-variants.{Line, Page}
 use Rattle.wording.specs.Texts.{toldText, used, courseText}
@@ -51,17 +54,17 @@ use Rattle.wording.specs.TextsLaws.{used-eleven}
 module _ (layout : Layout) (n : ℕ) (t r : List ℤ) (l : List ℕ) where
   -- the steps from index i on
   abbrev left : ℕ → List ℕ
-  left i = shown layout (i + 1) (n - i) (drop i t) (drop i r) (drop (11 * i) l)
+  left i = shown layout (i + 1) (n - i) (drop i t) (drop i r) (drop (lookPlaces * i) l)
 
   abbrev stepAt : ℕ → List ℕ
-  stepAt i = stepText layout (i + 1) (getD t i (pos 0)) (getD r i (pos 0)) (used (take 11 (drop (11 * i) l)))
+  stepAt i = stepText layout (i + 1) (getD t i (pos 0)) (getD r i (pos 0)) (used (take lookPlaces (drop (lookPlaces * i) l)))
 
   left-next : (i : ℕ) → i < n → left i ≡ stepAt i ++ left (i + 1)
   unfolding shown
   left-next i h =
       let e : n - i ≡ suc (n - (i + 1)) = omega arith in
-      let d : 11 * i + 11 ≡ 11 * (i + 1) = omega arith in
-      ap (λ (k : ℕ). shown layout (i + 1) k (drop i t) (drop i r) (drop (11 * i) l)) e ∙ rw (getD-drop i t 0 (pos 0), getD-drop i r 0 (pos 0), drop-drop 1 i t, drop-drop 1 i r, drop-drop 11 (11 * i) l, d) (simp (add-zero, add-one))
+      let d : lookPlaces * i + lookPlaces ≡ lookPlaces * (i + 1) = omega arith in
+      ap (λ (k : ℕ). shown layout (i + 1) k (drop i t) (drop i r) (drop (lookPlaces * i) l)) e ∙ rw (getD-drop i t 0 (pos 0), getD-drop i r 0 (pos 0), drop-drop 1 i t, drop-drop 1 i r, drop-drop lookPlaces (lookPlaces * i) l, d) (simp (add-zero, add-one))
 
   -- the first i steps were put
   pub record Putting (before : List ℕ) (at next : ℕ) (now : List ℕ) (i : ℕ) : Type 0 where
@@ -108,10 +111,10 @@ unfolding shown
 shown-outs layout none i t r l = refl
 shown-outs layout (next {o} {os} v target e h) i t r l =
     let x = eleven (o .seen) in
-    let z : length x ≡ 11 = rw e (length-eleven (looks v target) (looks-most v target)) in
+    let z : length x ≡ lookPlaces = rw e (length-eleven (looks v target) (looks-most v target)) in
     let u : used x ≡ o .seen = rw e (used-eleven v target) in
-    let a : take 11 ((x ++ looksOf os) ++ l) ≡ x = rw (append-assoc x (looksOf os) l) (take-at x (looksOf os ++ l) 11 z) in
-    let b : drop 11 ((x ++ looksOf os) ++ l) ≡ looksOf os ++ l = rw (append-assoc x (looksOf os) l) (drop-at x (looksOf os ++ l) 11 z) in
+    let a : take lookPlaces ((x ++ looksOf os) ++ l) ≡ x = rw (append-assoc x (looksOf os) l) (take-at x (looksOf os ++ l) lookPlaces z) in
+    let b : drop lookPlaces ((x ++ looksOf os) ++ l) ≡ looksOf os ++ l = rw (append-assoc x (looksOf os) l) (drop-at x (looksOf os ++ l) lookPlaces z) in
     ap₂ (λ (f g : List ℕ). stepText layout i (pos (o .state .mk)) (o .rests) (used f) ++ shown layout (suc i) (length os) (temperaturesOf os ++ t) (restsOf os ++ r) g) a b
     ∙ ap₂ (λ (f g : List ℕ). stepText layout i (pos (o .state .mk)) (o .rests) f ++ g) u (shown-outs layout h (suc i) t r l)
 
@@ -134,7 +137,7 @@ first-searched lines w s ps st = go (first lines (run w s st ps)) refl
 pub walk-searched : (verdict : SheetAnswer) (s : List ℕ) (ch : Charge) (mk : ℤ) (numbers : List ℤ) → Searched (outsOf (walkTold verdict s ch mk numbers))
 unfolding walked
 walk-searched Good s ch mk numbers =
-    first-searched (sheetLines s ++ startLines document01 ch mk (length numbers) 64 64 704) document01 s (stepsOf (length numbers / width) numbers) (startState ch mk)
+    first-searched (sheetLines s ++ startLines document01 ch mk (length numbers) mostSteps mostSteps mostLooks) document01 s (stepsOf (length numbers / stepNumbers) numbers) (startState ch mk)
 walk-searched (SheetRefused r) s ch mk numbers = none
 
 -- the lists that a walk left hold its steps, and what they show is its text
@@ -143,7 +146,7 @@ module _ {a : WalkAnswer} {t r t′ r′ : List ℤ} {l l′ : List ℕ} (told :
   room : (n : ℕ) (x y z : List ℤ) → length x ≡ n → y ≡ laid x z → length z ≡ length y → n ≤ length y
   room n x y z ex ey ez = omega (arith, ap length ey, length-append x (drop (length x) z), length-drop (length x) z)
 
-  pub holds : length t ≡ length t′ → length r ≡ length r′ → 11 * length t′ ≤ length l′ → Holds (stepsIn (paperWalk a)) t′ r′ l′
+  pub holds : length t ≡ length t′ → length r ≡ length r′ → lookPlaces * length t′ ≤ length l′ → Holds (stepsIn (paperWalk a)) t′ r′ l′
   holds et er el =
       let os = outsOf told in
       let n : length os ≡ stepsIn (paperWalk a) = sym (ap stepsIn (k .answer) ∙ steps-in told) in
@@ -163,10 +166,10 @@ module _ {a : WalkAnswer} {t r t′ r′ : List ℤ} {l l′ : List ℕ} (told :
   walk-shown searched Page = ap₂ (λ (x : List ℕ) (y : Told Course). (headerText ++ x) ++ endText y) (steps-shown searched Page) (k .answer)
 
 -- ---- over a sheet that was judged
-pub walks-accepted : {s : List ℕ} (ch : Charge) (mk : ℤ) (numbers : List ℤ) → Accepted s → walked [] document01 s ch mk numbers 64 64 704 ≡ walkTold Good s ch mk numbers
+pub walks-accepted : {s : List ℕ} (ch : Charge) (mk : ℤ) (numbers : List ℤ) → Accepted s → walked [] document01 s ch mk numbers mostSteps mostSteps mostLooks ≡ walkTold Good s ch mk numbers
 unfolding walked
 walks-accepted {s} ch mk numbers ok =
-    sym (past-sheet (startLines document01 ch mk (length numbers) 64 64 704) (run document01 s (startState ch mk) (stepsOf (length numbers / width) numbers)) ok)
+    sym (past-sheet (startLines document01 ch mk (length numbers) mostSteps mostSteps mostLooks) (run document01 s (startState ch mk) (stepsOf (length numbers / stepNumbers) numbers)) ok)
 
 pub walks-refused : (x : Refusal) (lent : Lists) → Walks (refused x) lent (Refused x) lent
 walks-refused x lent = record { answer = refl; lent = refl }
@@ -191,49 +194,49 @@ first-same : {A : Type 0} (ls ms ns : List Condition) (a b : A) → first ms a �
 first-same [] ms ns a b e = e
 first-same {A} (l ∷ ls) ms ns a b e = ap (λ (x : Told A). cond (condition l) (toldBy l) x) (first-same ls ms ns a b e)
 
--- more than 256 numbers are refused with 13, whatever they are
+-- more numbers than the longest walk has are refused with 13, whatever they are
 module _ (lines : List Condition) (w : Weights) (s : List ℕ) (ch : Charge) (mk : ℤ) (a b c : ℕ) where
-  wrong-many : (n : ℕ) → 256 < n → wrongSteps n ≡ true
-  wrong-many n h = rw (lt-ltb 256 n h) (or-true (not (eqb (n % 4) 0)))
+  wrong-many : (n : ℕ) → mostNumbers < n → wrongSteps n ≡ true
+  wrong-many n h = rw (lt-ltb mostNumbers n h) (or-true (not (eqb (n % stepNumbers) 0)))
 
-  refused-many : {A : Type 0} (n : ℕ) (v : A) → 256 < n → first (startLines w ch mk n a b c) v ≡ refuses 13
+  refused-many : {A : Type 0} (n : ℕ) (v : A) → mostNumbers < n → first (startLines w ch mk n a b c) v ≡ refuses 13
   refused-many n v h = rw (wrong-many n h) refl
 
-  many-alike : (xs ys : List ℤ) → 256 < length xs → 256 < length ys → walked lines w s ch mk xs a b c ≡ walked lines w s ch mk ys a b c
+  many-alike : (xs ys : List ℤ) → mostNumbers < length xs → mostNumbers < length ys → walked lines w s ch mk xs a b c ≡ walked lines w s ch mk ys a b c
   unfolding walked
   many-alike xs ys hx hy =
       first-same lines (startLines w ch mk (length xs) a b c) (startLines w ch mk (length ys) a b c) _ _
       (refused-many (length xs) _ hx ∙ sym (refused-many (length ys) _ hy))
 
-module _ (verdict : SheetAnswer) (s : List ℕ) (fs : List (List ℕ)) (before later : List ℤ) (long : length before ≡ 261) where
-  steps-alike : (ch : Charge) (mk : ℤ) (k : ℕ) → k ≡ length (valuesOf fs) → 4 ≤ k → later ≡ sets before 0 (valuesOf fs)
-      → walkTold verdict s ch mk (take (min k 261 - 4) (drop 4 later)) ≡ walkTold verdict s ch mk (drop 4 (valuesOf fs))
-  steps-alike ch mk k e h q = go (decLe k 261)
+module _ (verdict : SheetAnswer) (s : List ℕ) (fs : List (List ℕ)) (before later : List ℤ) (long : length before ≡ heldNumbers) where
+  steps-alike : (ch : Charge) (mk : ℤ) (k : ℕ) → k ≡ length (valuesOf fs) → startNumbers ≤ k → later ≡ sets before 0 (valuesOf fs)
+      → walkTold verdict s ch mk (take (min k heldNumbers - startNumbers) (drop startNumbers later)) ≡ walkTold verdict s ch mk (drop startNumbers (valuesOf fs))
+  steps-alike ch mk k e h q = go (decLe k heldNumbers)
     where
-      told-alike : (v : SheetAnswer) → 256 < length (take (min k 261 - 4) (drop 4 later)) → 256 < length (drop 4 (valuesOf fs))
-          → walkTold v s ch mk (take (min k 261 - 4) (drop 4 later)) ≡ walkTold v s ch mk (drop 4 (valuesOf fs))
-      told-alike Good x y = many-alike (sheetLines s) document01 s ch mk 64 64 704 _ _ x y
+      told-alike : (v : SheetAnswer) → mostNumbers < length (take (min k heldNumbers - startNumbers) (drop startNumbers later)) → mostNumbers < length (drop startNumbers (valuesOf fs))
+          → walkTold v s ch mk (take (min k heldNumbers - startNumbers) (drop startNumbers later)) ≡ walkTold v s ch mk (drop startNumbers (valuesOf fs))
+      told-alike Good x y = many-alike (sheetLines s) document01 s ch mk mostSteps mostSteps mostLooks _ _ x y
       told-alike (SheetRefused r) x y = refl
 
-      go : Dec (k ≤ 261) → walkTold verdict s ch mk (take (min k 261 - 4) (drop 4 later)) ≡ walkTold verdict s ch mk (drop 4 (valuesOf fs))
+      go : Dec (k ≤ heldNumbers) → walkTold verdict s ch mk (take (min k heldNumbers - startNumbers) (drop startNumbers later)) ≡ walkTold verdict s ch mk (drop startNumbers (valuesOf fs))
       go (yes g) =
-          let n : length (drop 4 (valuesOf fs)) ≡ min k 261 - 4 = omega (arith, length-drop 4 (valuesOf fs)) in
+          let n : length (drop startNumbers (valuesOf fs)) ≡ min k heldNumbers - startNumbers = omega (arith, length-drop startNumbers (valuesOf fs)) in
           ap (walkTold verdict s ch mk)
-          (rw (q, sets-eq (valuesOf fs) before 0 (omega arith), drop-append-le 4 (valuesOf fs) (drop (0 + length (valuesOf fs)) before) (omega arith))
-          (take-at (drop 4 (valuesOf fs)) (drop (0 + length (valuesOf fs)) before) (min k 261 - 4) n))
+          (rw (q, sets-eq (valuesOf fs) before 0 (omega arith), drop-append-le startNumbers (valuesOf fs) (drop (0 + length (valuesOf fs)) before) (omega arith))
+          (take-at (drop startNumbers (valuesOf fs)) (drop (0 + length (valuesOf fs)) before) (min k heldNumbers - startNumbers) n))
       go (no g) =
           told-alike verdict
-          (omega (arith, length-take (min k 261 - 4) (drop 4 later), length-drop 4 later, ap length q, length-sets before 0 (valuesOf fs)))
-          (omega (arith, length-drop 4 (valuesOf fs)))
+          (omega (arith, length-take (min k heldNumbers - startNumbers) (drop startNumbers later), length-drop startNumbers later, ap length q, length-sets before 0 (valuesOf fs)))
+          (omega (arith, length-drop startNumbers (valuesOf fs)))
 
-  pub walk-kept : (numbers : Numbers) (n : ℕ) → numbers ≡ countAll 0 fs → Stored fs before numbers later → n ≡ heldOf numbers 261 → 4 ≤ n
-      → walkText (walkTold verdict s (record { air = getD later 0 (pos 0); carbon = getD later 1 (pos 0); hydrogen = getD later 2 (pos 0) }) (getD later 3 (pos 0)) (take (n - 4) (drop 4 later))) ≡ walkRequest verdict s fs
+  pub walk-kept : (numbers : Numbers) (n : ℕ) → numbers ≡ countAll 0 fs → Stored fs before numbers later → n ≡ heldOf numbers heldNumbers → startNumbers ≤ n
+      → walkText (walkTold verdict s (record { air = getD later 0 (pos 0); carbon = getD later 1 (pos 0); hydrogen = getD later 2 (pos 0) }) (getD later 3 (pos 0)) (take (n - startNumbers) (drop startNumbers later))) ≡ walkRequest verdict s fs
   walk-kept (Count k) n e st en h =
       let c : k ≡ 0 + length (valuesOf fs) = count-is fs 0 k (sym e) in
-      let g : (i : ℕ) → i < 4 → getD later i (pos 0) ≡ getD (valuesOf fs) i (pos 0) = λ i l. ap (λ (x : List ℤ). getD x i (pos 0)) st ∙ kept-first (pos 0) (valuesOf fs) before i (omega arith) (omega arith) in
-      rw (← e, le-leb 4 k (omega arith), en, g 0 (lit< tt), g 1 (lit< tt), g 2 (lit< tt), g 3 (lit< tt)) (ap walkText (steps-alike _ _ k (omega arith) (omega arith) st))
+      let g : (i : ℕ) → i < startNumbers → getD later i (pos 0) ≡ getD (valuesOf fs) i (pos 0) = λ i l. ap (λ (x : List ℤ). getD x i (pos 0)) st ∙ kept-first (pos 0) (valuesOf fs) before i (omega arith) (omega arith) in
+      rw (← e, le-leb startNumbers k (omega arith), en, g 0 (lit< tt), g 1 (lit< tt), g 2 (lit< tt), g 3 (lit< tt)) (ap walkText (steps-alike _ _ k (omega arith) (omega arith) st))
   walk-kept Bad n e st en h = absurd (omega arith)
 
-  pub walk-misfit : (numbers : Numbers) (n : ℕ) → numbers ≡ countAll 0 fs → n ≡ heldOf numbers 261 → n < 4 → misfitText ≡ walkRequest verdict s fs
-  walk-misfit (Count k) n e en h = rw (← e, lt-leb 4 k (omega arith)) refl
+  pub walk-misfit : (numbers : Numbers) (n : ℕ) → numbers ≡ countAll 0 fs → n ≡ heldOf numbers heldNumbers → n < startNumbers → misfitText ≡ walkRequest verdict s fs
+  walk-misfit (Count k) n e en h = rw (← e, lt-leb startNumbers k (omega arith)) refl
   walk-misfit Bad n e en h = rw (← e) refl

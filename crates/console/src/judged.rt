@@ -9,6 +9,7 @@ use gas::inner::Admitted;
 ghost use mathlib.Core.Path.{_≡_};
 ghost use Prim.Native.Nat.{_≤_};
 ghost use lib.ListN.{length};
+ghost use Rattle.air.specs.Limits.{lookPlaces};
 ghost use Rattle.sheet.specs.Sheet.{Accepted};
 ghost use Rattle.gas.specs.Burning.{document01};
 ghost use Rattle.gas.specs.Answers.{paperHeat, paperSpecific, heatTold, contentTold, specificTold, Temperature};
@@ -62,7 +63,7 @@ pub(crate) fn temperature(
     sheet: &[u32],
     looks: &mut [u32],
 ) -> TemperatureAnswer
-    requires { ⌜ Accepted (now sheet) × (11 ≤ length (now looks)) ⌝ }
+    requires { ⌜ Accepted (now sheet) × (lookPlaces ≤ length (now looks)) ⌝ }
     ensures { λ r. ⌜ Temperature document01 charge (target .0) (now (sheet .entry)) (now (looks .entry)) r (now (looks .exit)) ⌝ }
 {
     match gas::inner::admit(charge) {

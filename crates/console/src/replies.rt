@@ -48,7 +48,7 @@ pub(crate) fn put_no_number(out: &mut [u8], at: usize) -> usize
 fn ask_psi(psi: i64, out: &mut [u8], at: usize) -> usize
     ensures { λ r. ⌜ Put (airText Reading.Temperature psi) (now (out .entry)) at r (now (out .exit)) ⌝ }
 {
-    let mut looks = [0u32; 11];
+    let mut looks = [0u32; air::LOOK_PLACES];
     let answer = air::psi_inverse(psi, &mut looks);
     wording::put_psi(answer, &looks, out, at)
 }
@@ -100,7 +100,7 @@ fn ask_temperature(charge: Charge, target: i64, sheet: &[u32], out: &mut [u8], a
     requires { ⌜ Accepted (now sheet) ⌝ }
     ensures { λ r. ⌜ Put (gasText Quantity.Temperature (now (sheet .entry)) charge target) (now (out .entry)) at r (now (out .exit)) ⌝ }
 {
-    let mut looks = [0u32; 11];
+    let mut looks = [0u32; air::LOOK_PLACES];
     let answer = judged::temperature(charge, Heat(target), sheet, &mut looks);
     wording::put_temperature(answer, &looks, out, at)
 }

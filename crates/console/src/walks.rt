@@ -8,6 +8,7 @@ ghost use mathlib.Core.Path.{_≡_};
 ghost use Prim.Native.Nat.{_≤_};
 ghost use lib.ListN.{length};
 ghost use Rattle.text.specs.Put.{Put};
+ghost use Rattle.walk.specs.Limits.{mostSteps, mostLooks};
 ghost use Rattle.fields.specs.Fields.{fieldsFrom};
 ghost use Rattle.walk.specs.Lists.{lists};
 ghost use Rattle.walk.specs.Walk.{paperWalk, Walks};
@@ -21,6 +22,11 @@ pub enum Layout {
     Line,
     Page,
 }
+
+// the numbers of a start: A, c, h and mK
+const START_NUMBERS: usize = 4;
+// places for a start, the steps of the longest walk, and one number more, by which too many are known
+const HELD_NUMBERS: usize = START_NUMBERS + walk::MOST_NUMBERS + 1;
 
 // How many steps were done.
 fn steps_done(answer: WalkAnswer) -> usize
@@ -87,8 +93,8 @@ fn put_steps(
     let mut next = at;
     let mut i: usize = 0;
     while i < n {
-        let from = 11 * i;
-        let end = from + 11;
+        let from = air::LOOK_PLACES * i;
+        let end = from + air::LOOK_PLACES;
         next = put_step(
             layout,
             i + 1,
@@ -189,7 +195,7 @@ fn walk_held(
     verdict: SheetAnswer,
     sheet: &[u32],
 ) -> WalkAnswer
-    requires { ⌜ Judged verdict (now sheet) × (length (now temperatures) ≡ 64) × (length (now rests) ≡ 64) × (length (now looks) ≡ 704) ⌝ }
+    requires { ⌜ Judged verdict (now sheet) × (length (now temperatures) ≡ mostSteps) × (length (now rests) ≡ mostSteps) × (length (now looks) ≡ mostLooks) ⌝ }
     ensures { λ r. ⌜ Walks (walkTold verdict (now (sheet .entry)) charge (t .0) (now (steps .entry)))
         (lists (now (temperatures .entry)) (now (rests .entry)) (now (looks .entry))) r
         (lists (now (temperatures .exit)) (now (rests .exit)) (now (looks .exit))) ⌝ }
@@ -203,7 +209,7 @@ fn walk_held(
     }
 }
 
-// A walk with lists for 64 steps, as the layout has it.
+// A walk with lists for the longest, as the layout has it.
 pub(crate) fn show(
     layout: Layout,
     charge: Charge,
@@ -217,9 +223,9 @@ pub(crate) fn show(
     requires { ⌜ Judged verdict (now sheet) ⌝ }
     ensures { λ r. ⌜ Put (layoutText layout (walkTold verdict (now (sheet .entry)) charge (t .0) (now (steps .entry)))) (now (out .entry)) at r (now (out .exit)) ⌝ }
 {
-    let mut temperatures = [0i64; 64];
-    let mut rests = [0i64; 64];
-    let mut looks = [0u32; 704];
+    let mut temperatures = [0i64; walk::MOST_STEPS];
+    let mut rests = [0i64; walk::MOST_STEPS];
+    let mut looks = [0u32; walk::MOST_LOOKS];
     let answer = walk_held(
         charge,
         t,
@@ -245,9 +251,9 @@ pub(crate) fn reply_walk(
     requires { ⌜ Judged verdict (now sheet) ⌝ }
     ensures { λ r. ⌜ Put (walkRequest verdict (now (sheet .entry)) (fieldsFrom (now (line .entry)) from)) (now (out .entry)) at r (now (out .exit)) ⌝ }
 {
-    let mut list = [0i64; 261];
-    let n = fields::held_of(fields::read_numbers(line, from, &mut list), 261);
-    if n < 4 {
+    let mut list = [0i64; HELD_NUMBERS];
+    let n = fields::held_of(fields::read_numbers(line, from, &mut list), HELD_NUMBERS);
+    if n < START_NUMBERS {
         return replies::put_misfit(out, at);
     }
     let start = Charge {
@@ -256,5 +262,5 @@ pub(crate) fn reply_walk(
         hydrogen: list[2],
     };
     let t = Millikelvin(list[3]);
-    show(Layout::Line, start, t, &list[4..n], verdict, sheet, out, at)
+    show(Layout::Line, start, t, &list[START_NUMBERS..n], verdict, sheet, out, at)
 }

@@ -1,3 +1,4 @@
+pub mod Limits
 pub mod Questions
 pub mod QuestionsLaws
 pub mod Sheets

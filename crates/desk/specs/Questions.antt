@@ -8,11 +8,13 @@ use lib.ListN.{take, drop, getD}
 use lib.Seq.{sets}
 use Rattle.gas.specs.declared.Charge.{Charge}
 use Rattle.sheet.specs.declared.SheetAnswer.{SheetAnswer}
+use Rattle.walk.specs.Limits.{stepNumbers}
 use Rattle.console.specs.Walks.{walkTold, printedWalk}
+use Rattle.desk.specs.Limits.{keptLines}
 
--- line k, counted from 0, stands in the four places from 4 · k on; the list has places for 66 lines
+-- line k, counted from 0, stands in four places of its own; a line past those that are kept is left out
 abbrev pub keptLine : ℕ → ℤ → ℤ → ℤ → ℤ → List ℤ → List ℤ
-keptLine k a b c d numbers = cond (ltb k 66) (sets numbers (4 * k) (a ∷ b ∷ c ∷ d ∷ [])) numbers
+keptLine k a b c d numbers = cond (ltb k keptLines) (sets numbers (stepNumbers * k) (a ∷ b ∷ c ∷ d ∷ [])) numbers
 
 -- the charge of the first line
 abbrev pub startIn : List ℤ → Charge
@@ -20,7 +22,7 @@ startIn numbers = record { air = getD numbers 0 (pos 0); carbon = getD numbers 1
 
 -- the steps of the lines after it: of a question with more lines than the list has places for, one more than the longest walk has, so that it is refused with 13
 abbrev pub stepsIn : ℕ → List ℤ → List ℤ
-stepsIn lines numbers = take (4 * min lines 66 - 4) (drop 4 numbers)
+stepsIn lines numbers = take (stepNumbers * min lines keptLines - stepNumbers) (drop stepNumbers numbers)
 
 -- the printed walk of a question of so many lines
 abbrev pub questionPage : SheetAnswer → List ℕ → ℕ → List ℤ → List ℕ

@@ -6,8 +6,9 @@ use sheet::SheetAnswer;
 use stream::Got;
 use stream::Held;
 use stream::Output;
-ghost use Prim.Native.Nat.{_+_, _≤_};
+ghost use Prim.Native.Nat.{_+_, _*_, _≤_};
 ghost use lib.ListN.{length};
+ghost use Rattle.console.specs.Limits.{answerRoom};
 ghost use Rattle.stream.specs.Writing.{Free, Leaves};
 ghost use Rattle.console.specs.Answers.{Judged};
 
@@ -37,7 +38,7 @@ fn answer_input(
     line: &mut [u8],
     out: &mut [u8],
 ) -> Turn
-    requires { ⌜ Judged verdict (now sheet) × (16384 ≤ length (now out)) ⌝ }
+    requires { ⌜ Judged verdict (now sheet) × (2 * answerRoom ≤ length (now out)) ⌝ }
     ensures { λ r. ⌜ Free (r .output) (now (out .exit)) ⌝ }
 {
     let mut turn = Turn {
@@ -78,7 +79,7 @@ fn answer_piece(
     line: &mut [u8],
     out: &mut [u8],
 ) -> Turn
-    requires { ⌜ Judged verdict (now sheet) × (16384 ≤ length (now out)) × Free (turn .output) (now out) ⌝ }
+    requires { ⌜ Judged verdict (now sheet) × (2 * answerRoom ≤ length (now out)) × Free (turn .output) (now out) ⌝ }
     ensures { λ r. ⌜ Leaves (turn .output) (now (out .entry)) (r .output) (now (out .exit)) ⌝ }
 {
     let mut held = turn.held;
@@ -101,7 +102,7 @@ fn answer_piece(
 
 // Answers a last line that no line feed ended.
 fn answer_last(turn: Turn, line: &[u8], verdict: SheetAnswer, sheet: &[u32], out: &mut [u8])
-    requires { ⌜ Judged verdict (now sheet) × (16384 ≤ length (now out)) × Free (turn .output) (now out) ⌝ }
+    requires { ⌜ Judged verdict (now sheet) × (2 * answerRoom ≤ length (now out)) × Free (turn .output) (now out) ⌝ }
 {
     let held = turn.held;
     if let Held::Bytes(n) = held {
@@ -114,7 +115,7 @@ fn answer_last(turn: Turn, line: &[u8], verdict: SheetAnswer, sheet: &[u32], out
     stream::flush(out, last);
 }
 
-// Answers the line that is held, and writes the answers where they fill half of the output. No answer is longer than 8,192 bytes (`answer-short` of the console), so none is cut.
+// Answers the line that is held, and writes the answers where they fill half of the output. No answer is longer than `answerRoom` (`answer-short` of the console), so none is cut.
 fn answer_held(
     held: Held,
     line: &[u8],
@@ -123,7 +124,7 @@ fn answer_held(
     out: &mut [u8],
     output: Output,
 ) -> Output
-    requires { ⌜ Judged verdict (now sheet) × (16384 ≤ length (now out)) × Free output (now out) ⌝ }
+    requires { ⌜ Judged verdict (now sheet) × (2 * answerRoom ≤ length (now out)) × Free output (now out) ⌝ }
     ensures { λ r. ⌜ Leaves output (now (out .entry)) r (now (out .exit)) ⌝ }
 {
     let Output::At(at) = output else {
@@ -142,7 +143,7 @@ fn put_answer(
     out: &mut [u8],
     at: usize,
 ) -> usize
-    requires { ⌜ Judged verdict (now sheet) × (at + 8192 ≤ length (now out)) ⌝ }
+    requires { ⌜ Judged verdict (now sheet) × (at + answerRoom ≤ length (now out)) ⌝ }
 {
     match held {
         Held::Bytes(n) => {

@@ -17,10 +17,12 @@ ghost use mathlib.Core.Path.{_≡_};
 ghost use lib.ListN.{length, set};
 ghost use Rattle.text.specs.Put.{Put};
 ghost use Rattle.console.specs.Answers.{Judged};
+ghost use Rattle.desk.specs.Limits.{keptNumbers, keptLines};
 ghost use Rattle.desk.specs.Questions.{keptLine, questionPage};
 
 // A start and the steps of a walk that is one step too long: where the list is full, document 01 refuses the walk with 13.
-const PLACES: usize = 264;
+const KEPT_LINES: u64 = walk::MOST_STEPS as u64 + 2;
+const KEPT_NUMBERS: usize = walk::STEP_NUMBERS * (walk::MOST_STEPS + 2);
 
 // A question so far: how many lines were good, the number of the line that was not four numbers or that had a carriage return, or an input that could not be read.
 enum Question {
@@ -66,7 +68,7 @@ fn print_from(fd: i32, name: &[u8], verdict: SheetAnswer, sheet: &[u32])
 {
     let mut piece = io::large_buffer();
     let mut line = io::large_buffer();
-    let mut numbers = [0i64; PLACES];
+    let mut numbers = [0i64; KEPT_NUMBERS];
     match read_all(fd, name, &mut piece, &mut line, &mut numbers) {
         Question::Good(lines) => {
             if lines == 0 {
@@ -99,8 +101,8 @@ fn keep(numbers: &mut [i64], at: usize, z: i64)
 fn keep_line(numbers: &mut [i64], k: u64, a: i64, b: i64, c: i64, d: i64)
     ensures { λ _. ⌜ now (numbers .exit) ≡ keptLine k a b c d (now (numbers .entry)) ⌝ }
 {
-    if k < 66 {
-        let at = 4 * (k as usize);
+    if k < KEPT_LINES {
+        let at = walk::STEP_NUMBERS * (k as usize);
         keep(numbers, at, a);
         keep(numbers, at + 1, b);
         keep(numbers, at + 2, c);
@@ -198,9 +200,9 @@ fn read_all(
 // How many of so many lines the list holds.
 fn kept(lines: u64) -> usize
     requires { ⌜ 1 ≤ lines ⌝ }
-    ensures { λ r. ⌜ (1 ≤ r) × (r ≡ min lines 66) ⌝ }
+    ensures { λ r. ⌜ (1 ≤ r) × (r ≡ min lines keptLines) ⌝ }
 {
-    if lines < 66 { lines as usize } else { 66 }
+    if lines < KEPT_LINES { lines as usize } else { KEPT_LINES as usize }
 }
 
 // The printed walk of a question of so many lines.
@@ -212,7 +214,7 @@ fn put_page(
     out: &mut [u8],
     at: usize,
 ) -> usize
-    requires { ⌜ Judged verdict (now sheet) × (length (now numbers) ≡ 264) × (1 ≤ lines) ⌝ }
+    requires { ⌜ Judged verdict (now sheet) × (length (now numbers) ≡ keptNumbers) × (1 ≤ lines) ⌝ }
     ensures { λ r. ⌜ Put (questionPage verdict (now (sheet .entry)) lines (now (numbers .entry))) (now (out .entry)) at r (now (out .exit)) ⌝ }
 {
     let start = Charge {
@@ -221,18 +223,18 @@ fn put_page(
         hydrogen: numbers[2],
     };
     let t = Millikelvin(numbers[3]);
-    let end = 4 * kept(lines);
-    console::inner::print_judged(start, t, &numbers[4..end], verdict, sheet, out, at)
+    let end = walk::STEP_NUMBERS * kept(lines);
+    console::inner::print_judged(start, t, &numbers[walk::STEP_NUMBERS..end], verdict, sheet, out, at)
 }
 
 // Prints the walk of a question of so many lines.
 fn print_walk(lines: u64, numbers: &[i64], verdict: SheetAnswer, sheet: &[u32])
-    requires { ⌜ Judged verdict (now sheet) × (length (now numbers) ≡ 264) × (1 ≤ lines) ⌝ }
+    requires { ⌜ Judged verdict (now sheet) × (length (now numbers) ≡ keptNumbers) × (1 ≤ lines) ⌝ }
 {
     let mut out = io::buffer();
     let next = put_page(lines, numbers, verdict, sheet, &mut out, 0);
     stream::flush(&out, Output::At(next));
-    let end = 4 * kept(lines);
+    let end = walk::STEP_NUMBERS * kept(lines);
     refusals::say(numbers, end, verdict, sheet);
 }
 

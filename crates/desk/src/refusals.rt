@@ -7,10 +7,12 @@ use walk::WalkAnswer;
 ghost use Prim.Native.Nat.{_≤_};
 ghost use mathlib.Core.Path.{_≡_};
 ghost use lib.ListN.{length};
+ghost use Rattle.walk.specs.Limits.{stepNumbers};
+ghost use Rattle.desk.specs.Limits.{keptNumbers};
 
 // Says what the walk of the numbers before `end` was refused for, if it was.
 pub(crate) fn say(numbers: &[i64], end: usize, verdict: SheetAnswer, sheet: &[u32])
-    requires { ⌜ (length (now numbers) ≡ 264) × (4 ≤ end) × (end ≤ 264) ⌝ }
+    requires { ⌜ (length (now numbers) ≡ keptNumbers) × (stepNumbers ≤ end) × (end ≤ keptNumbers) ⌝ }
 {
     match verdict {
         SheetAnswer::Good => say_walk(numbers, end, sheet),
@@ -20,7 +22,7 @@ pub(crate) fn say(numbers: &[i64], end: usize, verdict: SheetAnswer, sheet: &[u3
 
 // Says what the walk over a sheet that was found good was refused for.
 fn say_walk(numbers: &[i64], end: usize, sheet: &[u32])
-    requires { ⌜ (length (now numbers) ≡ 264) × (4 ≤ end) × (end ≤ 264) ⌝ }
+    requires { ⌜ (length (now numbers) ≡ keptNumbers) × (stepNumbers ≤ end) × (end ≤ keptNumbers) ⌝ }
 {
     let start = Charge {
         air: numbers[0],
@@ -28,7 +30,7 @@ fn say_walk(numbers: &[i64], end: usize, sheet: &[u32])
         hydrogen: numbers[2],
     };
     let t = Millikelvin(numbers[3]);
-    match course(start, t, &numbers[4..end], sheet) {
+    match course(start, t, &numbers[walk::STEP_NUMBERS..end], sheet) {
         WalkAnswer::Done(_, _, _) => (),
         WalkAnswer::Stopped(done, number, _, _) => say_step(done as u64 + 1, number),
         WalkAnswer::Refused(refusal) => say_start(refusal),
@@ -37,9 +39,9 @@ fn say_walk(numbers: &[i64], end: usize, sheet: &[u32])
 
 // The answer of a walk.
 fn course(start: Charge, t: Millikelvin, steps: &[i64], sheet: &[u32]) -> WalkAnswer {
-    let mut temperatures = [0i64; 64];
-    let mut rests = [0i64; 64];
-    let mut looks = [0u32; 704];
+    let mut temperatures = [0i64; walk::MOST_STEPS];
+    let mut rests = [0i64; walk::MOST_STEPS];
+    let mut looks = [0u32; walk::MOST_LOOKS];
     walk::walk(
         start,
         t,

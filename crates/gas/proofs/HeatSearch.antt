@@ -11,6 +11,7 @@ use lib.Signed.{leZ, _≤ℤ_, _<ℤ_}
 use mir.Syntax.{w64}
 use mir.Val.{SFits}
 use Rattle.signed.specs.Zed.{up, is-self, is-minus, fits-from, zed}
+use Rattle.air.specs.Limits.{lookPlaces}
 use Rattle.air.specs.Halving.{middle, halving, eleven, Halved}
 use Rattle.air.specs.HalvingLaws.{Turn, to-upper, to-lower, Kept, places-are}
 use Rattle.air.specs.Inverse.{temperature, rest, looks}
@@ -54,12 +55,12 @@ module _ {target here next : ℤ} {row : ℕ} (h : HoldsTarget target row here n
 -- ---- the whole search, from 200 to 2,000
 module _ {m : Masses} {s column : List ℕ} (r : Ready m s column) (target : ℤ) where
   -- a target that is the heat at 2,000 K
-  pub at-last : (before after : List ℕ) → target ≡ heatOf m s 2000000 → after ≡ replicate 11 0 ++ drop 11 before
+  pub at-last : (before after : List ℕ) → target ≡ heatOf m s 2000000 → after ≡ replicate lookPlaces 0 ++ drop lookPlaces before
       → Searched (heatOf m s) target before (At (record { 0 = pos 2000000 }) (record { 0 = pos 0 })) after
   unfolding eleven
   at-last before after e h = record {
     answer = rw (top-temperature (heatOf m s) target e, top-rest (heatOf m s) target e) refl;
-    list = h ∙ ap (λ (l : List ℕ). eleven l ++ drop 11 before) (sym (no-looks (heatOf m s) target e));
+    list = h ∙ ap (λ (l : List ℕ). eleven l ++ drop lookPlaces before) (sym (no-looks (heatOf m s) target e));
   }
 
   module _ (low : heatOf m s 200000 ≤ℤ target) (high : target <ℤ heatOf m s 2000000) {row : ℕ} (kept : row ≡ halving (heatFits m s target) 200 2000 .row) where
@@ -109,10 +110,10 @@ module _ {m : Masses} {s column : List ℕ} (r : Ready m s column) (target : ℤ
             rest-is st (w .row) (w .over) target (w .least) (w .most) (w .above) (w .below),
           ) refl
 
-      pub row-searched : {places before after : List ℕ} → Halved (heatFits m s target) 200 2000 0 (replicate 11 0) row places → after ≡ places ++ drop 11 before
+      pub row-searched : {places before after : List ℕ} → Halved (heatFits m s target) 200 2000 0 (replicate lookPlaces 0) row places → after ≡ places ++ drop lookPlaces before
           → Searched (heatOf m s) target before (divided target row here next) after
       unfolding heatFits
       row-searched {before} h l = record {
         answer = found-by-division;
-        list = l ∙ ap (λ (x : List ℕ). x ++ drop 11 before) (places-are h ∙ ap eleven (sym (looks-are (heatOf m s) target high)));
+        list = l ∙ ap (λ (x : List ℕ). x ++ drop lookPlaces before) (places-are h ∙ ap eleven (sym (looks-are (heatOf m s) target high)));
       }

@@ -8,6 +8,7 @@ use lib.IntN.{ℤ, pos}
 use lib.ListN.{length}
 use Rattle.signed.specs.Zed.{up, outside}
 use Rattle.refusal.specs.Refusals.{Told, gives, refused, Line, _when_, first}
+use Rattle.air.specs.Limits.{lookPlaces}
 use Rattle.air.specs.Inverse.{looks, unreached, Found, found, written}
 use Rattle.sheet.specs.Answers.{sheetLines}
 use Rattle.gas.specs.declared.Charge.{Charge}
@@ -62,7 +63,7 @@ heatOrder w ch mk s = sheetLines s ++ (chargeLines w ch ++ temperatureLines mk)
 
 -- 1, 3, 10, 4, 5: all before the target is judged
 abbrev pub searchOrder : Weights → Charge → List ℕ → ℕ → List Line
-searchOrder w ch s places = sheetLines s ++ (10 when ltb places 11 ∷ chargeLines w ch)
+searchOrder w ch s places = sheetLines s ++ (10 when ltb places lookPlaces ∷ chargeLines w ch)
 
 -- ---- what each call tells
 abbrev pub burnTold : Weights → Charge → Told Products

@@ -11,6 +11,7 @@ use Rattle.refusal.specs.declared.Refusal.{Refusal}
 use Rattle.refusal.specs.declared.Refusal.the-variants.{Plain}
 use Rattle.refusal.specs.Refusals.{Told, gives, refused, Line, _when_, toldBy, first, First, Clear, none, clear}
 use Rattle.refusal.specs.RefusalsLaws.{refusal-given, values-given}
+use Rattle.air.specs.Limits.{lookPlaces}
 use Rattle.air.specs.Inverse.{unreached, found}
 use Rattle.sheet.specs.Sheet.{Accepted}
 use Rattle.sheet.specs.Answers.{sheetLines}
@@ -53,29 +54,29 @@ readable-of w ch mk s e =
 pub record Searchable (w : Weights) (s : List ℕ) (places : ℕ) (g : Gas) : Type 0 where
   pub burns : Burns w g
   pub accepted : Accepted s
-  pub room : 11 ≤ places
+  pub room : lookPlaces ≤ places
 
-room-of : (places : ℕ) {ls : List Line} → Clear (10 when ltb places 11 ∷ ls) → (11 ≤ places) × Clear ls
-room-of places (clear h c) = (ltb-false places 11 h, c)
+room-of : (places : ℕ) {ls : List Line} → Clear (10 when ltb places lookPlaces ∷ ls) → (lookPlaces ≤ places) × Clear ls
+room-of places (clear h c) = (ltb-false places lookPlaces h, c)
 
 pub searchable-of : (w : Weights) (ch : Charge) (s : List ℕ) (places : ℕ) {g : Gas} → gives g ≡ first (searchOrder w ch s places) (gasOf ch) → Searchable w s places g
 searchable-of w ch s places e =
     let c = clear-order (searchOrder w ch s places) (gasOf ch) e in
-    let r = room-of places (clear-right (sheetLines s) (10 when ltb places 11 ∷ chargeLines w ch) c) in
+    let r = room-of places (clear-right (sheetLines s) (10 when ltb places lookPlaces ∷ chargeLines w ch) c) in
     rw (← given (searchOrder w ch s places) (gasOf ch) e)
-    (record { burns = burns-of w ch (r .1); accepted = accepted-of s (10 when ltb places 11 ∷ chargeLines w ch) c; room = r .0 })
+    (record { burns = burns-of w ch (r .1); accepted = accepted-of s (10 when ltb places lookPlaces ∷ chargeLines w ch) c; room = r .0 })
 
 -- ---- a sheet that was judged adds no line: past it, 4, 5 and 6 of a heat, and 4 and 5 of a search with eleven places
 module _ {s : List ℕ} (accepted : Accepted s) (w : Weights) (ch : Charge) where
   pub past-heat : (mk : ℤ) {t : Told Gas} → t ≡ first (chargeLines w ch ++ temperatureLines mk) (gasOf ch) → t ≡ first (heatOrder w ch mk s) (gasOf ch)
   past-heat mk e = e ∙ sym (past-sheet (chargeLines w ch ++ temperatureLines mk) (gasOf ch) accepted)
 
-  pub past-search : (places : ℕ) {t : Told Gas} → 11 ≤ places → t ≡ first (chargeLines w ch) (gasOf ch) → t ≡ first (searchOrder w ch s places) (gasOf ch)
-  past-search places h e = e ∙ sym (past-sheet (10 when ltb places 11 ∷ chargeLines w ch) (gasOf ch) accepted ∙ rw (le-ltb places 11 h) refl)
+  pub past-search : (places : ℕ) {t : Told Gas} → lookPlaces ≤ places → t ≡ first (chargeLines w ch) (gasOf ch) → t ≡ first (searchOrder w ch s places) (gasOf ch)
+  past-search places h e = e ∙ sym (past-sheet (10 when ltb places lookPlaces ∷ chargeLines w ch) (gasOf ch) accepted ∙ rw (le-ltb places lookPlaces h) refl)
 
   -- and 10 of a search with fewer
-  pub short-search : (places : ℕ) → places < 11 → refused (Plain 10) ≡ first (searchOrder w ch s places) (gasOf ch)
-  short-search places h = sym (past-sheet (10 when ltb places 11 ∷ chargeLines w ch) (gasOf ch) accepted ∙ rw (lt-ltb places 11 h) refl)
+  pub short-search : (places : ℕ) → places < lookPlaces → refused (Plain 10) ≡ first (searchOrder w ch s places) (gasOf ch)
+  short-search places h = sym (past-sheet (10 when ltb places lookPlaces ∷ chargeLines w ch) (gasOf ch) accepted ∙ rw (lt-ltb places lookPlaces h) refl)
 
 -- ---- the temperature of a heat
 module _ (v : ℕ → ℤ) (target : ℤ) (before : List ℕ) where

@@ -22,6 +22,7 @@ use Rattle.rows.specs.Rows.{rowsH}
 use Rattle.rows.specs.Table.{column, airH}
 use Rattle.rows.specs.TableLaws.{H-grows}
 use Rattle.rows.specs.GrowthLaws.{grows}
+use Rattle.air.specs.Limits.{fifteenDegrees}
 use Rattle.air.specs.Readings.{reading, between, airHeat, NeverFalls}
 use Rattle.air.specs.ReadingsLaws.{between-line, grows-on}
 use Rattle.air.specs.InverseLaws.{rises-on}
@@ -69,12 +70,12 @@ air-first : airHeat 200000 ≡ 4776000
 unfolding rowsH column airH reading between airHeat
 air-first = refl
 
-air-15 : airHeat 288160 ≡ 6886840
+air-15 : airHeat fifteenDegrees ≡ 6886840
 unfolding rowsH column airH reading between airHeat
 air-15 = refl
 
-below-or-above : (T : ℕ) → (T ≤ 288160) ⊎ (288160 ≤ T)
-below-or-above T = elim (decLe T 288160) [ yes h ↦ inl h | no h ↦ inr (omega arith) ]
+below-or-above : (T : ℕ) → (T ≤ fifteenDegrees) ⊎ (fifteenDegrees ≤ T)
+below-or-above T = elim (decLe T fifteenDegrees) [ yes h ↦ inl h | no h ↦ inr (omega arith) ]
 
 split : (n : ℕ) {a c : ℕ} → a ≤ c → n * c ≡ n * a + n * (c - a)
 split n {a} {c} h = let e : c ≡ a + (c - a) = omega arith in ap (λ (x : ℕ). n * x) e ∙ omega arith
@@ -154,21 +155,21 @@ module _ {g : Gas} {s : List ℕ} (b : Burns document01 g) (ok : Accepted s) whe
         let n = b .limits in
         omega (arith, sum-parts sized p, apart (gasHeat document01 s g T), mul-le-mul-left used (p .oxygen-most), mul-le-mul-left (100000 * g .air) a)
 
-    content-is : Is (contentAbove15 document01 s g T) (brought T + taken 288160) (taken T + brought 288160)
-    content-is = is-minus (brought-is T l u) (brought-is 288160 (lit≤ tt) (lit≤ tt))
+    content-is : Is (contentAbove15 document01 s g T) (brought T + taken fifteenDegrees) (taken T + brought fifteenDegrees)
+    content-is = is-minus (brought-is T l u) (brought-is fifteenDegrees (lit≤ tt) (lit≤ tt))
 
     pub content-most : up (contentAbove15 document01 s g T) ≤ 999211600000000000
     content-most =
         ⊎-elim
-        (λ d. omega (arith, content-is, apart (contentAbove15 document01 s g T), never-less T 288160 l d (lit≤ tt)))
-        (λ d. omega (arith, content-is, apart (contentAbove15 document01 s g T), gained 288160 T (lit≤ tt) d u, air-15, per-pound ok T l u .air-most))
+        (λ d. omega (arith, content-is, apart (contentAbove15 document01 s g T), never-less T fifteenDegrees l d (lit≤ tt)))
+        (λ d. omega (arith, content-is, apart (contentAbove15 document01 s g T), gained fifteenDegrees T (lit≤ tt) d u, air-15, per-pound ok T l u .air-most))
         (below-or-above T)
 
     pub content-least : dn (contentAbove15 document01 s g T) ≤ 551298400000000000
     content-least =
         ⊎-elim
-        (λ d. omega (arith, content-is, apart (contentAbove15 document01 s g T), gained T 288160 l d (lit≤ tt), air-15, air-first, air-up 200000 T (lit≤ tt) l u))
-        (λ d. omega (arith, content-is, apart (contentAbove15 document01 s g T), never-less 288160 T (lit≤ tt) d u))
+        (λ d. omega (arith, content-is, apart (contentAbove15 document01 s g T), gained T fifteenDegrees l d (lit≤ tt), air-15, air-first, air-up 200000 T (lit≤ tt) l u))
+        (λ d. omega (arith, content-is, apart (contentAbove15 document01 s g T), never-less fifteenDegrees T (lit≤ tt) d u))
         (below-or-above T)
 
     pub content-fits : SFits w64 (contentAbove15 document01 s g T)

@@ -6,6 +6,7 @@ use lib.IntN.{ℤ, pos, _+ℤ_, _-ℤ_, _*ℤ_}
 use lib.Signed.{quotZ}
 use Rattle.signed.specs.Zed.{up}
 use Rattle.rows.specs.Table.{airH}
+use Rattle.air.specs.Limits.{fifteenDegrees}
 use Rattle.air.specs.Readings.{between, airHeat}
 use Rattle.sheet.specs.Sheet.{o2, co2, h2o, rise}
 use Rattle.gas.specs.declared.Gas.{Gas}
@@ -34,7 +35,7 @@ gasHeat w s g T = heatOf (massesOf w g) s T
 
 -- content above 15 °C: gas heat at T less gas heat at 288,160 mK of the same charge
 abbrev pub contentAbove15 : Weights → List ℕ → Gas → ℕ → ℤ
-contentAbove15 w s g T = gasHeat w s g T -ℤ gasHeat w s g 288160
+contentAbove15 w s g T = gasHeat w s g T -ℤ gasHeat w s g fifteenDegrees
 
 -- specific content: content above 15 °C divided by total mass, the fraction dropped
 unfoldable pub specificContent : Weights → List ℕ → Gas → ℕ → ℤ

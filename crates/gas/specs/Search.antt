@@ -7,6 +7,7 @@ use lib.IntN.{ℤ, pos, _-ℤ_}
 use lib.ListN.{drop}
 use lib.Signed.{_≤ℤ_, _<ℤ_}
 use Rattle.signed.specs.Zed.{up}
+use Rattle.air.specs.Limits.{lookPlaces}
 use Rattle.air.specs.Halving.{eleven}
 use Rattle.air.specs.Inverse.{fits, temperature, rest, looks}
 use Rattle.gas.specs.declared.Masses.{Masses}
@@ -40,4 +41,4 @@ divided target row here next =
 -- the answer to a target that is reached, and the lent list after it
 pub record Searched (v : ℕ → ℤ) (target : ℤ) (before : List ℕ) (r : TemperatureAnswer) (after : List ℕ) : Type 0 where
   pub answer : r ≡ At (record { 0 = pos (temperature v target) }) (record { 0 = rest v target })
-  pub list : after ≡ eleven (looks v target) ++ drop 11 before
+  pub list : after ≡ eleven (looks v target) ++ drop lookPlaces before

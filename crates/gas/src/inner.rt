@@ -20,6 +20,7 @@ ghost use lib.ListN.{length};
 ghost use Rattle.signed.specs.Zed.{up, inZ};
 ghost use Rattle.rows.specs.Rows.{rowsH};
 ghost use Rattle.refusal.specs.Refusals.{first};
+ghost use Rattle.air.specs.Limits.{lookPlaces};
 ghost use Rattle.sheet.specs.Sheet.{Accepted};
 ghost use Rattle.gas.specs.Burning.{document01, gasOf, beyond as Burning·beyond, Limits, lean as Burning·lean, Burns, fuelMass, totalMass};
 ghost use Rattle.gas.specs.Heat.{gasHeat, contentAbove15, specificContent};
@@ -124,7 +125,7 @@ pub fn content_at(gas: Gas, t: Millikelvin, sheet: &[u32], air: &[u32; 1801]) ->
     requires { ⌜ Burns document01 gas × Accepted (now sheet) × (now air ≡ rowsH) × (inZ (pos 200000) (pos 2000000) (t .0) ≡ true) ⌝ }
     ensures { λ r. ⌜ r .0 ≡ contentAbove15 document01 (now (sheet .entry)) gas (up (t .0)) ⌝ }
 {
-    let fifteen = heat_at(gas, Millikelvin(288160), sheet, air);
+    let fifteen = heat_at(gas, Millikelvin(air::FIFTEEN_DEGREES), sheet, air);
     heats::less(heat_at(gas, t, sheet, air), fifteen)
 }
 
@@ -145,7 +146,7 @@ pub fn find(
     sheet: &[u32],
     air: &[u32; 1801],
 ) -> TemperatureAnswer
-    requires { ⌜ Burns document01 gas × Accepted (now sheet) × (now air ≡ rowsH) × (11 ≤ length (now looks)) ⌝ }
+    requires { ⌜ Burns document01 gas × Accepted (now sheet) × (now air ≡ rowsH) × (lookPlaces ≤ length (now looks)) ⌝ }
     ensures { λ r. ⌜ Inverse [] (gasHeat document01 (now (sheet .entry)) gas) (target .0) (now (looks .entry)) r (now (looks .exit)) ⌝ }
 {
     let masses = burning::weigh(gas);
@@ -219,7 +220,7 @@ pub fn temperature_judged(
     requires { ⌜ Accepted (now sheet) × (now air ≡ rowsH) ⌝ }
     ensures { λ r. ⌜ Temperature document01 charge (target .0) (now (sheet .entry)) (now (looks .entry)) r (now (looks .exit)) ⌝ }
 {
-    if looks.len() < 11 {
+    if looks.len() < air::LOOK_PLACES {
         return TemperatureAnswer::Refused(Refusal::Plain(air::LIST_SHORT));
     }
     match admit(charge) {

@@ -10,6 +10,7 @@ ghost use mathlib.Core.Path.{_≡_};
 ghost use Prim.Native.Nat.{_≤_, _<_};
 ghost use lib.ListN.{length};
 ghost use lib.Signed.{_≤ℤ_};
+ghost use Rattle.air.specs.Limits.{lookPlaces};
 ghost use Rattle.air.specs.Halving.{Room, Halved};
 ghost use Rattle.gas.specs.Heat.{heatOf};
 ghost use Rattle.gas.specs.Sizes.{Ready};
@@ -20,7 +21,7 @@ fn halve(
     lo: u64,
     hi: u64,
     target: Heat,
-    looks: &mut [u32; 11],
+    looks: &mut [u32; air::LOOK_PLACES],
     at: usize,
     mass: u64,
     used: i64,
@@ -30,7 +31,7 @@ fn halve(
     air: &[u32; 1801],
 ) -> u64
     requires { ⌜ (200 ≤ lo) × (lo < hi) × (hi ≤ 2000) × Ready (masses mass used co2 h2o) (now (now sheet)) (now air) ⌝ }
-    requires { ⌜ (length (now looks) ≡ 11) × Room (heatFits (masses mass used co2 h2o) (now (now sheet)) (target .0)) lo hi at (now looks) ⌝ }
+    requires { ⌜ (length (now looks) ≡ lookPlaces) × Room (heatFits (masses mass used co2 h2o) (now (now sheet)) (target .0)) lo hi at (now looks) ⌝ }
     ensures { λ r. ⌜ Halved (heatFits (masses mass used co2 h2o) (now (now (sheet .entry))) (target .0)) lo hi at (now (looks .entry)) r (now (looks .exit)) ⌝ }
 {
     if hi <= lo + 1 {
@@ -96,11 +97,11 @@ pub(crate) fn reached(
     sheet: &[u32],
     air: &[u32; 1801],
 ) -> TemperatureAnswer
-    requires { ⌜ Ready gas (now sheet) (now air) × (11 ≤ length (now looks)) × (last .0 ≡ heatOf gas (now sheet) 2000000) ⌝ }
+    requires { ⌜ Ready gas (now sheet) (now air) × (lookPlaces ≤ length (now looks)) × (last .0 ≡ heatOf gas (now sheet) 2000000) ⌝ }
     requires { ⌜ (heatOf gas (now sheet) 200000 ≤ℤ target .0) × (target .0 ≤ℤ last .0) ⌝ }
     ensures { λ r. ⌜ Searched (heatOf gas (now (sheet .entry))) (target .0) (now (looks .entry)) r (now (looks .exit)) ⌝ }
 {
-    let mut eleven = [0u32; 11];
+    let mut eleven = [0u32; air::LOOK_PLACES];
     if last.0 <= target.0 {
         air::inner::lay(&eleven, looks);
         return TemperatureAnswer::At(Millikelvin(2000000), Heat(0));

@@ -1,5 +1,5 @@
 -- Laws of the output: what a write took lies in what it was handed; after room was made half of the buffer is free. Assumes nothing.
-use Prim.Native.Nat.{ℕ, _+_, _-_, _≤_, _/_}
+use Prim.Native.Nat.{ℕ, _+_, _-_, _*_, _≤_, _/_}
 use mathlib.Core.Bool.{Bool, true, false, cond}
 use mathlib.Core.List.{List}
 use mathlib.Core.Logic.{⊎-elim, inl, inr}
@@ -46,9 +46,9 @@ roomed-free out (At n) r h = go (ltb n (length out / 2)) refl
     go false e = flushed-free out n r (h .1 (ltb-false n (length out / 2) e))
 roomed-free out Closed r h = subst (λ (o : Output). Free o out) (sym h) tt
 
--- where half of a large buffer is free, an answer has 8,192 places
-pub free-at : {o : Output} {n : ℕ} (out : List ℕ) → o ≡ At n → Free o out → 16384 ≤ length out → n + 8192 ≤ length out
-free-at {n} out e f h = let k : n ≤ length out / 2 = subst (λ (o : Output). Free o out) e f in omega arith
+-- where half of a buffer is free, so is the room that it has twice
+pub free-at : {o : Output} {n : ℕ} (room : ℕ) (out : List ℕ) → o ≡ At n → Free o out → 2 * room ≤ length out → n + room ≤ length out
+free-at {n} room out e f h = let k : n ≤ length out / 2 = subst (λ (o : Output). Free o out) e f in omega arith
 
 -- closed stays closed, whatever calls follow one another
 stays-same : (o : Output) (out : List ℕ) → StaysClosed o out o out

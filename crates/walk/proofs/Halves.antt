@@ -11,6 +11,7 @@ use lib.Signed.{_≤ℤ_}
 use mir.Syntax.{w64}
 use mir.Val.{SFits}
 use Rattle.signed.specs.Zed.{le-from, ltZ-false, up, dn, apart, is-self, is-minus, same-by, fits-from, inZ, in-range, not-outside, zed}
+use Rattle.air.specs.Limits.{fifteenDegrees}
 use Rattle.air.specs.declared.Millikelvin.{Millikelvin}
 use Rattle.refusal.specs.declared.Refusal.{Refusal}
 use Rattle.refusal.specs.Refusals.{Told, gives, refused, first, Clear, clear, numberOf}
@@ -65,31 +66,31 @@ module _ (s : List ℕ) (st : Standing) (p : Step) where
     unfolding asked
     asked-clear = rw (a, h, l) refl
 
-    pub asks-for : (t f : Heat) (m : ℤ) → m ≡ stepHeat document01 p → f .0 ≡ gasHeat document01 s g 288160 → t .0 ≡ st .heat .0 -ℤ st .fifteen .0 +ℤ m +ℤ f .0
+    pub asks-for : (t f : Heat) (m : ℤ) → m ≡ stepHeat document01 p → f .0 ≡ gasHeat document01 s g fifteenDegrees → t .0 ≡ st .heat .0 -ℤ st .fifteen .0 +ℤ m +ℤ f .0
         → Asks told s (For (record { gas = g; target = t; fifteen = f }))
     asks-for t f m x y z =
-        let q : t .0 ≡ held document01 s (stateOf st) +ℤ stepHeat document01 p +ℤ gasHeat document01 s (newGas (st .gas) p) 288160 =
-        z ∙ ap₂ (λ (u v : ℤ). u +ℤ m +ℤ v) (ap₂ (λ (u v : ℤ). u -ℤ v) (k .heat-is) (k .fifteen-is)) (y ∙ ap (λ (n : Gas). gasHeat document01 s n 288160) (sym e))
-        ∙ ap (λ (u : ℤ). held document01 s (stateOf st) +ℤ u +ℤ gasHeat document01 s (newGas (st .gas) p) 288160) x in
+        let q : t .0 ≡ held document01 s (stateOf st) +ℤ stepHeat document01 p +ℤ gasHeat document01 s (newGas (st .gas) p) fifteenDegrees =
+        z ∙ ap₂ (λ (u v : ℤ). u +ℤ m +ℤ v) (ap₂ (λ (u v : ℤ). u -ℤ v) (k .heat-is) (k .fifteen-is)) (y ∙ ap (λ (n : Gas). gasHeat document01 s n fifteenDegrees) (sym e))
+        ∙ ap (λ (u : ℤ). held document01 s (stateOf st) +ℤ u +ℤ gasHeat document01 s (newGas (st .gas) p) fifteenDegrees) x in
         record {
           asked-is = ap₂ (λ (n : Gas) (u : ℤ). gives (record { gas = n; target = u })) (sym e) q ∙ sym asked-clear;
           ready = burning b y;
         }
 
     -- its target stays inside 64 bits
-    pub in-reach : Accepted s → Limits document01 (st .gas) → (m f : ℤ) → m ≡ stepHeat document01 p → f ≡ gasHeat document01 s g 288160 → InReach (st .heat .0) (st .fifteen .0) m f
+    pub in-reach : Accepted s → Limits document01 (st .gas) → (m f : ℤ) → m ≡ stepHeat document01 p → f ≡ gasHeat document01 s g fifteenDegrees → InReach (st .heat .0) (st .fifteen .0) m f
     in-reach ok lim m f x y =
         let c = mk-range (st .t .0) (k .covered) in
         let r : (up m ≤ 4254750000000000000) × (dn m ≤ 1000000000000000000) = subst⁻¹ (λ (z : ℤ). (up z ≤ 4254750000000000000) × (dn z ≤ 1000000000000000000)) x (brought-here lim) in
         record {
           heat-most = rw (k .heat-is) (gas-heat-most (k .burns) ok (up (st .t .0)) (c .0) (c .1));
           heat-least = rw (k .heat-is) (omega (arith, gas-heat-least (k .burns) ok (up (st .t .0)) (c .0) (c .1)));
-          fifteen-most = rw (k .fifteen-is) (gas-heat-most (k .burns) ok 288160 (omega arith) (omega arith));
-          fifteen-least = rw (k .fifteen-is) (omega (arith, gas-heat-least (k .burns) ok 288160 (omega arith) (omega arith)));
+          fifteen-most = rw (k .fifteen-is) (gas-heat-most (k .burns) ok fifteenDegrees (omega arith) (omega arith));
+          fifteen-least = rw (k .fifteen-is) (omega (arith, gas-heat-least (k .burns) ok fifteenDegrees (omega arith) (omega arith)));
           brought-most = r .0;
           brought-least = r .1;
-          new-most = rw y (gas-heat-most b ok 288160 (omega arith) (omega arith));
-          new-least = rw y (omega (arith, gas-heat-least b ok 288160 (omega arith) (omega arith)));
+          new-most = rw y (gas-heat-most b ok fifteenDegrees (omega arith) (omega arith));
+          new-least = rw y (omega (arith, gas-heat-least b ok fifteenDegrees (omega arith) (omega arith)));
         }
       where
         brought-here : Limits document01 (st .gas) → (up (stepHeat document01 p) ≤ 4254750000000000000) × (dn (stepHeat document01 p) ≤ 1000000000000000000)
@@ -153,7 +154,7 @@ module _ (s : List ℕ) (st : Standing) (p : Step) where
       unfolding rest
       heat-there = ap (λ (z : ℤ). target -ℤ z) left-is ∙ same-by (is-minus (is-self target) (is-minus (is-self target) (is-self (v (temperature v target))))) (is-self (v (temperature v target))) (omega arith)
 
-      asks-burning : {x : Asking} → AsksOf s (For x) → Burns document01 (x .gas) × (x .fifteen .0 ≡ gasHeat document01 s (x .gas) 288160)
+      asks-burning : {x : Asking} → AsksOf s (For x) → Burns document01 (x .gas) × (x .fifteen .0 ≡ gasHeat document01 s (x .gas) fifteenDegrees)
       asks-burning (burning b f) = (b, f)
 
       -- the heat at the new temperature fits

@@ -9,9 +9,11 @@ use lib.ListN.{length, take, drop, set, length-append, length-set, take-append-d
 use lib.Seq.{getD-drop, drop-drop}
 use Rattle.signed.specs.Zed.{plain}
 use Rattle.refusal.specs.Refusals.{Told, gives, refused, numberOf}
+use Rattle.air.specs.Limits.{lookPlaces}
 use Rattle.air.specs.Halving.{eleven}
 use Rattle.gas.specs.declared.Heat.{Heat}
 use Rattle.gas.specs.Burning.{document01}
+use Rattle.walk.specs.Limits.{stepNumbers}
 use Rattle.walk.specs.declared.WalkAnswer.{WalkAnswer}
 use Rattle.walk.specs.declared.stepping.Standing.{Standing}
 use Rattle.walk.specs.declared.stepping.Stepped.{Stepped}
@@ -59,18 +61,18 @@ abbrev pub ahead : List Out → Trace → Trace
 ahead os t = record { outs = os ++ t .outs; end = t .end }
 
 -- the step at index i, as the code reads it
-step-at : (i : ℕ) (l : List ℤ) → stepAt (drop (4 * i) l) ≡ stepNo l i
+step-at : (i : ℕ) (l : List ℤ) → stepAt (drop (stepNumbers * i) l) ≡ stepNo l i
 step-at i l = simp (getD-drop, add-zero)
 
 -- the steps from index i on: the one at i, and those from i + 1 on
-steps-from : (n i : ℕ) (l : List ℤ) → i < n → stepsOf (n - i) (drop (4 * i) l) ≡ stepNo l i ∷ stepsOf (n - (i + 1)) (drop (4 * (i + 1)) l)
+steps-from : (n i : ℕ) (l : List ℤ) → i < n → stepsOf (n - i) (drop (stepNumbers * i) l) ≡ stepNo l i ∷ stepsOf (n - (i + 1)) (drop (stepNumbers * (i + 1)) l)
 unfolding stepsOf
 steps-from n i l h =
     let e : n - i ≡ suc (n - (i + 1)) = omega arith in
-    let d : 4 * (i + 1) ≡ 4 * i + 4 = omega arith in
-    ap (λ (k : ℕ). stepsOf k (drop (4 * i) l)) e
-    ∙ ap (λ (x : List ℤ). stepAt (drop (4 * i) l) ∷ stepsOf (n - (i + 1)) x) (drop-drop 4 (4 * i) l ∙ ap (λ (k : ℕ). drop k l) (sym d))
-    ∙ ap (λ (x : Step). x ∷ stepsOf (n - (i + 1)) (drop (4 * (i + 1)) l)) (step-at i l)
+    let d : stepNumbers * (i + 1) ≡ stepNumbers * i + stepNumbers = omega arith in
+    ap (λ (k : ℕ). stepsOf k (drop (stepNumbers * i) l)) e
+    ∙ ap (λ (x : List ℤ). stepAt (drop (stepNumbers * i) l) ∷ stepsOf (n - (i + 1)) x) (drop-drop stepNumbers (stepNumbers * i) l ∙ ap (λ (k : ℕ). drop k l) (sym d))
+    ∙ ap (λ (x : Step). x ∷ stepsOf (n - (i + 1)) (drop (stepNumbers * (i + 1)) l)) (step-at i l)
 
 ahead-snoc : (os : List Out) (o : Out) (t : Trace) → ahead os (more o t) ≡ ahead (os ++ (o ∷ [])) t
 ahead-snoc os o t = ap (λ (x : List Out). record { outs = x; end = t .end }) (sym (append-assoc os (o ∷ []) (t .outs)))
@@ -89,8 +91,8 @@ module _ (s : List ℕ) (start : State) (n : ℕ) (numbers t₀ r₀ : List ℤ)
     pub outs : List Out
     pub within : i ≤ n
     pub count : length outs ≡ i
-    pub places : length (looksOf outs) ≡ 11 * i
-    pub ran : run document01 s start (stepsOf n numbers) ≡ ahead outs (run document01 s (stateOf st) (stepsOf (n - i) (drop (4 * i) numbers)))
+    pub places : length (looksOf outs) ≡ lookPlaces * i
+    pub ran : run document01 s start (stepsOf n numbers) ≡ ahead outs (run document01 s (stateOf st) (stepsOf (n - i) (drop (stepNumbers * i) numbers)))
     pub stands : Stands s st
     pub temperatures : t ≡ laid (temperaturesOf outs) t₀
     pub rests : r ≡ laid (restsOf outs) r₀
@@ -100,9 +102,9 @@ module _ (s : List ℕ) (start : State) (n : ℕ) (numbers t₀ r₀ : List ℤ)
     pub same-l : length l ≡ length l₀
     pub fit-t : n ≤ length t₀
     pub fit-r : n ≤ length r₀
-    pub fit-l : 11 * n ≤ length l₀
+    pub fit-l : lookPlaces * n ≤ length l₀
 
-  pub begin : (st : Standing) → start ≡ stateOf st → Stands s st → n ≤ length t₀ → n ≤ length r₀ → 11 * n ≤ length l₀ → Sofar t₀ r₀ l₀ st 0
+  pub begin : (st : Standing) → start ≡ stateOf st → Stands s st → n ≤ length t₀ → n ≤ length r₀ → lookPlaces * n ≤ length l₀ → Sofar t₀ r₀ l₀ st 0
   begin st e k ft fr fl = record {
     outs = [];
     within = omega arith;
@@ -125,28 +127,28 @@ module _ (s : List ℕ) (start : State) (n : ℕ) (numbers t₀ r₀ : List ℤ)
     abbrev j : Told Out
     j = judge document01 s (stateOf st) (stepNo numbers i)
 
-    turn : run document01 s (stateOf st) (stepsOf (n - i) (drop (4 * i) numbers)) ≡ onward (stateOf st) j (λ q. run document01 s q (stepsOf (n - (i + 1)) (drop (4 * (i + 1)) numbers)))
+    turn : run document01 s (stateOf st) (stepsOf (n - i) (drop (stepNumbers * i) numbers)) ≡ onward (stateOf st) j (λ q. run document01 s q (stepsOf (n - (i + 1)) (drop (stepNumbers * (i + 1)) numbers)))
     unfolding run
     turn = rw (steps-from n i numbers h) refl
 
     forth : (o : Out) (next : Standing) → j ≡ gives o → o .state ≡ stateOf next → Stands s next →
-        Sofar (set t i (pos (o .state .mk))) (set r i (o .rests)) (take (11 * i) l ++ laid (eleven (o .seen)) (drop (11 * i) l)) next (i + 1)
+        Sofar (set t i (pos (o .state .mk))) (set r i (o .rests)) (take (lookPlaces * i) l ++ laid (eleven (o .seen)) (drop (lookPlaces * i) l)) next (i + 1)
     forth o next e q k =
         let os = f .outs in
         let d = eleven-places (step-done document01 s (stateOf st) (stepNo numbers i) o e) in
         let lt = length-map os (λ (x : Out). pos (x .state .mk)) ∙ f .count in
         let lr = length-map os (λ (x : Out). x .rests) ∙ f .count in
         let room : length (looksOf os ++ eleven (o .seen)) ≤ length l₀ = simp (length-append, f .places, d) (omega arith) in
-        let ll : take (11 * i) l ++ laid (eleven (o .seen)) (drop (11 * i) l) ≡ laid (looksOf os ++ eleven (o .seen)) l₀ = rw (f .looks) (laid-part (11 * i) (looksOf os) (eleven (o .seen)) l₀ (f .places)) in
+        let ll : take (lookPlaces * i) l ++ laid (eleven (o .seen)) (drop (lookPlaces * i) l) ≡ laid (looksOf os ++ eleven (o .seen)) l₀ = rw (f .looks) (laid-part (lookPlaces * i) (looksOf os) (eleven (o .seen)) l₀ (f .places)) in
         record {
           outs = os ++ (o ∷ []);
           within = omega arith;
           count = length-append os (o ∷ []) ∙ ap (λ (k : ℕ). k + 1) (f .count);
           places = ap length (looks-snoc os o) ∙ simp (length-append, f .places, d) (omega arith);
           ran =
-              f .ran ∙ ap (ahead os) (turn ∙ ap (λ (x : Told Out). onward (stateOf st) x (λ q. run document01 s q (stepsOf (n - (i + 1)) (drop (4 * (i + 1)) numbers)))) e)
-              ∙ ahead-snoc os o (run document01 s (o .state) (stepsOf (n - (i + 1)) (drop (4 * (i + 1)) numbers)))
-              ∙ ap (λ (x : State). ahead (os ++ (o ∷ [])) (run document01 s x (stepsOf (n - (i + 1)) (drop (4 * (i + 1)) numbers)))) q;
+              f .ran ∙ ap (ahead os) (turn ∙ ap (λ (x : Told Out). onward (stateOf st) x (λ q. run document01 s q (stepsOf (n - (i + 1)) (drop (stepNumbers * (i + 1)) numbers)))) e)
+              ∙ ahead-snoc os o (run document01 s (o .state) (stepsOf (n - (i + 1)) (drop (stepNumbers * (i + 1)) numbers)))
+              ∙ ap (λ (x : State). ahead (os ++ (o ∷ [])) (run document01 s x (stepsOf (n - (i + 1)) (drop (stepNumbers * (i + 1)) numbers)))) q;
           stands = k;
           temperatures = ap (λ (x : List ℤ). set x i (pos (o .state .mk))) (f .temperatures) ∙ laid-set i (temperaturesOf os) t₀ (pos (o .state .mk)) lt (omega arith) ∙ ap (λ (x : List ℤ). laid x t₀) (sym (map-snoc (λ (x : Out). pos (x .state .mk)) os o));
           rests = ap (λ (x : List ℤ). set x i (o .rests)) (f .rests) ∙ laid-set i (restsOf os) r₀ (o .rests) lr (omega arith) ∙ ap (λ (x : List ℤ). laid x r₀) (sym (map-snoc (λ (x : Out). x .rests) os o));
@@ -160,25 +162,25 @@ module _ (s : List ℕ) (start : State) (n : ℕ) (numbers t₀ r₀ : List ℤ)
         }
 
     with-out : (o : Out) (ys : List ℕ) (next : Standing) (x y : ℤ) → j ≡ gives o → o .state ≡ stateOf next → Stands s next → x ≡ pos (o .state .mk) → y ≡ o .rests →
-        ys ≡ laid (eleven (o .seen)) (take (length l - 11 * i) (drop (11 * i) l)) →
-        Sofar (set t i x) (set r i y) (take (11 * i) l ++ (ys ++ drop (length l - 11 * i) (drop (11 * i) l))) next (i + 1)
-    with-out o ys next x y e p k u v b = rw (back-laid (11 * i) l (eleven (o .seen)) ys b, u, v) (forth o next e p k)
+        ys ≡ laid (eleven (o .seen)) (take (length l - lookPlaces * i) (drop (lookPlaces * i) l)) →
+        Sofar (set t i x) (set r i y) (take (lookPlaces * i) l ++ (ys ++ drop (length l - lookPlaces * i) (drop (lookPlaces * i) l))) next (i + 1)
+    with-out o ys next x y e p k u v b = rw (back-laid (lookPlaces * i) l (eleven (o .seen)) ys b, u, v) (forth o next e p k)
 
     -- what a call of `step` says, which was lent the part of the looks from 11 * i on and left it at ys; x and y are what was stored
     pub turned : (p : Step) → p ≡ stepNo numbers i → (a : Stepped) (ys : List ℕ) (next : Standing) (rest : Heat) (x y : ℤ) → a ≡ Done next rest → x ≡ next .t .0 → y ≡ rest .0 →
-        StepGives (judge document01 s (stateOf st) p) s (take (length l - 11 * i) (drop (11 * i) l)) a ys →
-        Sofar (set t i x) (set r i y) (take (11 * i) l ++ (ys ++ drop (length l - 11 * i) (drop (11 * i) l))) next (i + 1)
+        StepGives (judge document01 s (stateOf st) p) s (take (length l - lookPlaces * i) (drop (lookPlaces * i) l)) a ys →
+        Sofar (set t i x) (set r i y) (take (lookPlaces * i) l ++ (ys ++ drop (length l - lookPlaces * i) (drop (lookPlaces * i) l))) next (i + 1)
     turned p g a ys next rest x y e u v w1 =
         let w = was-done j next rest ys (rw (g, e) at w1) in
         with-out (w .out) ys next x y (w .judged) (w .state) (w .stands) (u ∙ plain (mk-range (next .t .0) (w .stands .covered) .2) ∙ ap (λ (q : State). pos (q .mk)) (sym (w .state))) (v ∙ sym (w .rests)) (w .looks)
 
     pub halted : (p : Step) → p ≡ stepNo numbers i → (a : Stepped) (ys : List ℕ) (k : ℕ) (b : WalkAnswer) → a ≡ Refused k → paperWalk b ≡ gives (courseOf i (cut k (stateOf st))) →
-        StepGives (judge document01 s (stateOf st) p) s (take (length l - 11 * i) (drop (11 * i) l)) a ys →
-        Walks (gives (run document01 s start (stepsOf n numbers))) (lists t₀ r₀ l₀) b (lists t r (take (11 * i) l ++ (ys ++ drop (length l - 11 * i) (drop (11 * i) l))))
+        StepGives (judge document01 s (stateOf st) p) s (take (length l - lookPlaces * i) (drop (lookPlaces * i) l)) a ys →
+        Walks (gives (run document01 s start (stepsOf n numbers))) (lists t₀ r₀ l₀) b (lists t r (take (lookPlaces * i) l ++ (ys ++ drop (length l - lookPlaces * i) (drop (lookPlaces * i) l))))
     halted p g a ys k b e q w1 =
         let w = was-refused j k ys (rw (g, e) at w1) in
         let os = f .outs in
-        let u : take (11 * i) l ++ (ys ++ drop (length l - 11 * i) (drop (11 * i) l)) ≡ l = back-laid (11 * i) l [] ys (w .1) ∙ take-append-drop (11 * i) l in
+        let u : take (lookPlaces * i) l ++ (ys ++ drop (length l - lookPlaces * i) (drop (lookPlaces * i) l)) ≡ l = back-laid (lookPlaces * i) l [] ys (w .1) ∙ take-append-drop (lookPlaces * i) l in
         let v : run document01 s start (stepsOf n numbers) ≡ record { outs = os; end = cut k (stateOf st) } =
         f .ran ∙ ap (ahead os) (turn ∙ w .0 (stateOf st) _) ∙ ap (λ (x : List Out). record { outs = x; end = cut k (stateOf st) }) (append-nil os) in
         rw (u, v) (record { answer = q ∙ ap (λ (m : ℕ). gives (courseOf m (cut k (stateOf st)))) (sym (f .count)); lent = rw (f .temperatures, f .rests, f .looks) refl })
@@ -191,5 +193,5 @@ module _ (s : List ℕ) (start : State) (n : ℕ) (numbers t₀ r₀ : List ℤ)
       let z : n - i ≡ 0 = omega arith in
       let e : n ≡ length os = omega arith in
       let w : run document01 s start (stepsOf n numbers) ≡ record { outs = os; end = ended (stateOf st) } =
-      f .ran ∙ ap (λ (k : ℕ). ahead os (run document01 s (stateOf st) (stepsOf k (drop (4 * i) numbers)))) z ∙ ap (λ (x : List Out). record { outs = x; end = ended (stateOf st) }) (append-nil os) in
+      f .ran ∙ ap (λ (k : ℕ). ahead os (run document01 s (stateOf st) (stepsOf k (drop (stepNumbers * i) numbers)))) z ∙ ap (λ (x : List Out). record { outs = x; end = ended (stateOf st) }) (append-nil os) in
       rw w (record { answer = q ∙ ap (λ (m : ℕ). gives (courseOf m (ended (stateOf st)))) e; lent = rw (f .temperatures, f .rests, f .looks) refl })

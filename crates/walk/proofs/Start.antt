@@ -9,6 +9,7 @@ use lib.Dec.{ltb, eqb}
 use lib.IntN.{ℤ, pos}
 use lib.ListN.{length}
 use Rattle.signed.specs.Zed.{up, inZ}
+use Rattle.air.specs.Limits.{lookPlaces}
 use Rattle.air.specs.declared.Millikelvin.{Millikelvin}
 use Rattle.refusal.specs.declared.Refusal.{Refusal}
 use Rattle.refusal.specs.declared.Refusal.the-variants.{Plain}
@@ -25,6 +26,7 @@ use Rattle.gas.specs.Burning.{document01, gasOf, Burns}
 use Rattle.gas.specs.BurningLaws.{burns-of}
 use Rattle.refusal.specs.OrdersLaws.{stopped, clear-left, clear-right}
 use Rattle.gas.specs.Answers.{chargeLines, temperatureLines}
+use Rattle.walk.specs.Limits.{stepNumbers, mostSteps, mostNumbers}
 use Rattle.walk.specs.declared.WalkAnswer.{WalkAnswer}
 use Rattle.walk.specs.declared.WalkAnswer.the-variants.{Refused}
 use Rattle.walk.specs.declared.stepping.Standing.{Standing}
@@ -41,20 +43,20 @@ pub walks-as : {x y : Told Trace} {before after : Lists} {a : WalkAnswer} → x 
 walks-as {before} {after} {a} e h = subst (λ (x : Told Trace). Walks x before a after) e h
 
 -- a list of steps that is right has at most 64
-pub few-steps : (n : ℕ) → wrongSteps n ≡ false → n / 4 ≤ 64
-few-steps n e = omega (arith, ltb-false 256 n (neither (not (eqb (n % 4) 0)) (ltb 256 n) e .1))
+pub few-steps : (n : ℕ) → wrongSteps n ≡ false → n / stepNumbers ≤ mostSteps
+few-steps n e = omega (arith, ltb-false mostNumbers n (neither (not (eqb (n % stepNumbers) 0)) (ltb mostNumbers n) e .1))
 
 -- lists that are long enough
 pub record Long (n temperatures rests looks : ℕ) : Type 0 where
   pub long-t : n ≤ temperatures
   pub long-r : n ≤ rests
-  pub long-l : 11 * n ≤ looks
+  pub long-l : lookPlaces * n ≤ looks
 
 pub long-lists : (n temperatures rests looks : ℕ) → shortLists n temperatures rests looks ≡ false → Long n temperatures rests looks
 long-lists n temperatures rests looks e =
     let a = neither (ltb temperatures n) _ e in
-    let b = neither (ltb rests n) (ltb looks (11 * n)) (a .1) in
-    record { long-t = ltb-false _ _ (a .0); long-r = ltb-false _ _ (b .0); long-l = ltb-false looks (11 * n) (b .1) }
+    let b = neither (ltb rests n) (ltb looks (lookPlaces * n)) (a .1) in
+    record { long-t = ltb-false _ _ (a .0); long-r = ltb-false _ _ (b .0); long-l = ltb-false looks (lookPlaces * n) (b .1) }
 
 module _ (s : List ℕ) (ch : Charge) (mk : ℤ) (numbers : List ℤ) (nt nr nl : ℕ) where
   abbrev told : Told Trace
@@ -64,13 +66,13 @@ module _ (s : List ℕ) (ch : Charge) (mk : ℤ) (numbers : List ℤ) (nt nr nl 
   unfolding walked
   told-13 e = rw e refl
 
-  pub told-10 : wrongSteps (length numbers) ≡ false → shortLists (length numbers / 4) nt nr nl ≡ true → told ≡ refused (Plain 10)
+  pub told-10 : wrongSteps (length numbers) ≡ false → shortLists (length numbers / stepNumbers) nt nr nl ≡ true → told ≡ refused (Plain 10)
   unfolding walked
   told-10 e h = rw (e, h) refl
 
-  module _ (e : wrongSteps (length numbers) ≡ false) (h : shortLists (length numbers / 4) nt nr nl ≡ false) where
+  module _ (e : wrongSteps (length numbers) ≡ false) (h : shortLists (length numbers / stepNumbers) nt nr nl ≡ false) where
     abbrev course : Trace
-    course = run document01 s (startState ch mk) (stepsOf (length numbers / 4) numbers)
+    course = run document01 s (startState ch mk) (stepsOf (length numbers / stepNumbers) numbers)
 
     past-lists : told ≡ first (chargeLines document01 ch ++ temperatureLines mk) course
     unfolding walked

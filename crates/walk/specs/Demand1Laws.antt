@@ -16,11 +16,12 @@ use Rattle.gas.specs.declared.Charge.{Charge}
 use Rattle.gas.specs.Burning.{Weights}
 use Rattle.gas.specs.Heat.{gasHeat}
 use Rattle.air.specs.Inverse.{unreached}
+use Rattle.walk.specs.Limits.{stepNumbers}
 use Rattle.walk.specs.declared.WalkAnswer.{WalkAnswer}
 use Rattle.walk.specs.declared.Step.{Step}
 use Rattle.walk.specs.Step.{State, Asked, Out, held, askLines, askedOf, asked, outOf, sought, judge, stepOrder}
 use Rattle.walk.specs.Lists.{Lists}
-use Rattle.walk.specs.Walk.{Trace, End, ended, cut, more, onward, run, noStep, StoppedAt, FirstRefused, width, stepsOf, startLines, startState, walked, walkedInto, Course, done, stopped, chargeOf, courseOf, course, paperWalk, Walks}
+use Rattle.walk.specs.Walk.{Trace, End, ended, cut, more, onward, run, noStep, StoppedAt, FirstRefused, stepsOf, startLines, startState, walked, walkedInto, Course, done, stopped, chargeOf, courseOf, course, paperWalk, Walks}
 
 -- ---- a step
 module _ (w : Weights) (s : List ℕ) (st : State) (p : Step) where
@@ -144,7 +145,7 @@ module _ (lines : List Line) (w : Weights) (s : List ℕ) (start : Charge) (from
   order = lines ++ startLines w start from (length numbers) (length (before .temperatures)) (length (before .rests)) (length (before .looks))
 
   abbrev steps : List Step
-  steps = stepsOf (length numbers / width) numbers
+  steps = stepsOf (length numbers / stepNumbers) numbers
 
   abbrev T : Trace
   T = run w s (startState start from) steps

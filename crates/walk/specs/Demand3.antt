@@ -8,6 +8,7 @@ use lib.IntN.{ℤ, pos, _-ℤ_}
 use lib.ListN.{length, getD, take, drop}
 use lib.Signed.{_≤ℤ_, _<ℤ_}
 use Rattle.signed.specs.Zed.{up}
+use Rattle.air.specs.Limits.{lookPlaces}
 use Rattle.air.specs.Halving.{eleven}
 use Rattle.air.specs.Inverse.{temperature, rest, looks}
 use Rattle.gas.specs.declared.Charge.{Charge}
@@ -56,5 +57,5 @@ pub record Demand3 (w : Weights) (s : List ℕ) (st : State) (ps : List Step) (n
   pub shortfall : 0 < length ps → (ledger w s st ps -ℤ contentAbove15 w s (gasOf ch) (up mk)) <ℤ pos (sumOf (map (dearest w s) (gasesAfter (st .gas) ps)))
   pub temperatures : (i : ℕ) → i < length ps → getD t i (pos 0) ≡ pos (temperature (gasHeat w s (askedAt w s st ps t i .gas)) (askedAt w s st ps t i .target))
   pub rests : (i : ℕ) → i < length ps → getD r i (pos 0) ≡ rest (gasHeat w s (askedAt w s st ps t i .gas)) (askedAt w s st ps t i .target)
-  pub at-most-eleven : (i : ℕ) → i < length ps → length (looks (gasHeat w s (askedAt w s st ps t i .gas)) (askedAt w s st ps t i .target)) ≤ 11
-  pub halving-looks : (i : ℕ) → i < length ps → take 11 (drop (11 * i) l) ≡ eleven (looks (gasHeat w s (askedAt w s st ps t i .gas)) (askedAt w s st ps t i .target))
+  pub at-most-eleven : (i : ℕ) → i < length ps → length (looks (gasHeat w s (askedAt w s st ps t i .gas)) (askedAt w s st ps t i .target)) ≤ lookPlaces
+  pub halving-looks : (i : ℕ) → i < length ps → take lookPlaces (drop (lookPlaces * i) l) ≡ eleven (looks (gasHeat w s (askedAt w s st ps t i .gas)) (askedAt w s st ps t i .target))

@@ -12,6 +12,7 @@ use Rattle.signed.specs.Zed.{up, is-pos, is-self, is-add, is-minus, lt-by, zed}
 use Rattle.refusal.specs.Refusals.{Told, gives, refused, Line, Clear, clear, none as nothing}
 use Rattle.refusal.specs.BoolLaws.{neither}
 use Rattle.refusal.specs.RefusalsLaws.{gives-clear, values-given}
+use Rattle.air.specs.Limits.{lookPlaces}
 use Rattle.air.specs.Halving.{eleven}
 use Rattle.air.specs.HalvingLaws.{length-eleven}
 use Rattle.air.specs.Inverse.{rest, looks}
@@ -25,11 +26,12 @@ use Rattle.gas.specs.Burning.{Weights, Sound, document01, beyond}
 use Rattle.gas.specs.BurningLaws.{limits-of, document01-sound}
 use Rattle.gas.specs.HeatLaws.{gas-rises}
 use Rattle.gas.specs.Heat.{gasHeat}
+use Rattle.walk.specs.Limits.{stepNumbers}
 use Rattle.walk.specs.declared.WalkAnswer.{WalkAnswer}
 use Rattle.walk.specs.Lists.{Lists, laid}
 use Rattle.walk.specs.declared.Step.{Step}
 use Rattle.walk.specs.Step.{State, Asked, Out, held, added, newGas, askedOf, outOf}
-use Rattle.walk.specs.Walk.{Trace, End, ended, cut, run, noStep, width, stepsOf, startLines, startState, walked, walkedInto, courseOf, course, chargeOf, paperWalk, temperaturesOf, restsOf, looksOf, filled, Walks, WalkPromise}
+use Rattle.walk.specs.Walk.{Trace, End, ended, cut, run, noStep, stepsOf, startLines, startState, walked, walkedInto, courseOf, course, chargeOf, paperWalk, temperaturesOf, restsOf, looksOf, filled, Walks, WalkPromise}
 use Rattle.walk.specs.Ledger.{total, ledger, dearest, sumOf, lastOf}
 use Rattle.walk.specs.RunLaws.{StepDone, step-done, of-run}
 use Rattle.walk.specs.LedgerLaws.{AllClimb, dearests, run-balances, gas-after}
@@ -81,21 +83,21 @@ module _ {w : Weights} {s : List ℕ} where
       ∙ ap (λ (x : State). outOf w s (askedOf w s (held w s x) (x .gas) (getD ps i noStep))) (before-next d ps t i (h 0 (omega arith)))
 
   -- no step has more than eleven looks, so each has its eleven places
-  pub eleven-places : {st : State} {p : Step} {o : Out} → StepDone w s st p o → length (eleven (o .seen)) ≡ 11
+  pub eleven-places : {st : State} {p : Step} {o : Out} → StepDone w s st p o → length (eleven (o .seen)) ≡ lookPlaces
   eleven-places {st} {p} d =
       let a = askedOf w s (held w s st) (st .gas) p in
       rw (d .out) (length-eleven (looks (gasHeat w s (a .gas)) (a .target)) (looks-most (gasHeat w s (a .gas)) (a .target)))
 
   chain-looks : {st : State} {ps : List Step} {os : List Out} → Chain w s st ps os → (i : ℕ) (e : Out) (rest : List ℕ) → i < length os
-      → take 11 (drop (11 * i) (looksOf os ++ rest)) ≡ eleven (getD os i e .seen)
+      → take lookPlaces (drop (lookPlaces * i) (looksOf os ++ rest)) ≡ eleven (getD os i e .seen)
   chain-looks none i e rest l = absurd (not-suc-le-zero l)
-  chain-looks (link {o} {os} d c) zero e rest l = rw (append-assoc (eleven (o .seen)) (looksOf os) rest) (take-at (eleven (o .seen)) (looksOf os ++ rest) 11 (eleven-places d))
+  chain-looks (link {o} {os} d c) zero e rest l = rw (append-assoc (eleven (o .seen)) (looksOf os) rest) (take-at (eleven (o .seen)) (looksOf os ++ rest) lookPlaces (eleven-places d))
   chain-looks (link {o} {os} d c) (suc i) e rest l =
-      let n : 11 * suc i ≡ 11 + 11 * i = omega arith in
-      ap (take 11)
+      let n : lookPlaces * suc i ≡ lookPlaces + lookPlaces * i = omega arith in
+      ap (take lookPlaces)
       (ap (λ (k : ℕ). drop k ((eleven (o .seen) ++ looksOf os) ++ rest)) n
-      ∙ sym (drop-drop (11 * i) 11 ((eleven (o .seen) ++ looksOf os) ++ rest))
-      ∙ ap (drop (11 * i)) (ap (drop 11) (append-assoc (eleven (o .seen)) (looksOf os) rest) ∙ drop-at (eleven (o .seen)) (looksOf os ++ rest) 11 (eleven-places d)))
+      ∙ sym (drop-drop (lookPlaces * i) lookPlaces ((eleven (o .seen) ++ looksOf os) ++ rest))
+      ∙ ap (drop (lookPlaces * i)) (ap (drop lookPlaces) (append-assoc (eleven (o .seen)) (looksOf os) rest) ∙ drop-at (eleven (o .seen)) (looksOf os ++ rest) lookPlaces (eleven-places d)))
       ∙ chain-looks c i e rest (le-of-suc-le-suc l)
 
 -- an element of a list of what each element has
@@ -196,7 +198,7 @@ began (stopped n j ch t) (refused r) h = absurd (let z : _≡_ {A = ℕ} 0 1 = c
 
 module _ (w : Weights) (s : List ℕ) (climb : AllClimb w s) (lines : List Line) (start : Charge) (from : ℤ) (numbers : List ℤ) (before : Lists) where
   abbrev steps : List Step
-  steps = stepsOf (length numbers / width) numbers
+  steps = stepsOf (length numbers / stepNumbers) numbers
 
   abbrev told : Told Trace
   told = walkedInto before lines w s start from numbers
@@ -225,7 +227,7 @@ module _ (w : Weights) (so : Sound w) (s : List ℕ) (start : Charge) (from : �
   began-accepted : (T : Trace) → walkedInto before (sheetLines s) w s start from numbers ≡ gives T → Accepted s
   unfolding walked
   began-accepted T e =
-      let c = gives-clear (sheetLines s ++ startLines w start from (length numbers) (length (before .temperatures)) (length (before .rests)) (length (before .looks))) {a = run w s (startState start from) (stepsOf (length numbers / width) numbers)} {b = T} e .0 in
+      let c = gives-clear (sheetLines s ++ startLines w start from (length numbers) (length (before .temperatures)) (length (before .rests)) (length (before .looks))) {a = run w s (startState start from) (stepsOf (length numbers / stepNumbers) numbers)} {b = T} e .0 in
       accepted-of-told s (values-given tt (sheet-clear c))
     where
       sheet-clear : Clear (sheetLines s ++ startLines w start from (length numbers) (length (before .temperatures)) (length (before .rests)) (length (before .looks))) → Clear (sheetLines s)
@@ -234,7 +236,7 @@ module _ (w : Weights) (so : Sound w) (s : List ℕ) (start : Charge) (from : �
   -- DEMAND 3: for every outcome that meets the promise of `walk` with n steps done, by the charge and temperature that came back and the lists as they are on return
   pub demand-3 : (a : WalkAnswer) (after : Lists) (n : ℕ) (ch : Charge) (mk : ℤ)
       → Walks (walkedInto before (sheetLines s) w s start from numbers) before a after → CameBack a n ch mk
-      → Demand3 w s (startState start from) (take n (stepsOf (length numbers / width) numbers)) n ch mk (after .temperatures) (after .rests) (after .looks)
+      → Demand3 w s (startState start from) (take n (stepsOf (length numbers / stepNumbers) numbers)) n ch mk (after .temperatures) (after .rests) (after .looks)
   demand-3 a after n ch mk h c =
       let b = began c (walkedInto before (sheetLines s) w s start from numbers) (h .answer) in
       demand-3-climbing w s (all-climb w so (began-accepted (b .0) (b .1))) (sheetLines s) start from numbers before a after n ch mk h c
@@ -242,5 +244,5 @@ module _ (w : Weights) (so : Sound w) (s : List ℕ) (start : Charge) (from : �
 -- at document 01's weights nothing is left to suppose
 pub demand-3-document01 : (s : List ℕ) (start : Charge) (from : ℤ) (numbers : List ℤ) (before : Lists) (a : WalkAnswer) (after : Lists) (n : ℕ) (ch : Charge) (mk : ℤ)
     → WalkPromise (sheetLines s) s start from numbers before a after → CameBack a n ch mk
-    → Demand3 document01 s (startState start from) (take n (stepsOf (length numbers / width) numbers)) n ch mk (after .temperatures) (after .rests) (after .looks)
+    → Demand3 document01 s (startState start from) (take n (stepsOf (length numbers / stepNumbers) numbers)) n ch mk (after .temperatures) (after .rests) (after .looks)
 demand-3-document01 = demand-3 document01 document01-sound

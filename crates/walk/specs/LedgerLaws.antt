@@ -14,6 +14,7 @@ use lib.Signed.{_≤ℤ_, _<ℤ_}
 use Rattle.signed.specs.Zed.{up, apart, is-pos, is-self, is-add, is-minus, same-by, le-by, zed, le-parts, lt-parts}
 use Rattle.refusal.specs.Refusals.{gives}
 use Rattle.refusal.specs.BoolLaws.{by-bool}
+use Rattle.air.specs.Limits.{fifteenDegrees}
 use Rattle.air.specs.Inverse.{temperature, rest}
 use Rattle.air.specs.InverseLaws.{temperature-least, temperature-most, rest-least, next-exceeds}
 use Rattle.gas.specs.declared.Gas.{Gas}
@@ -105,8 +106,8 @@ module _ (w : Weights) (s : List ℕ) (st : State) (p : Step) (o : Out) (d : Ste
   step-balances =
       rw (d .out)
       (same-by
-      (is-add (is-minus (is-self (v (temperature v target))) (is-self (v 288160)))
-      (is-minus (is-add (is-add (is-self (held w s st)) (is-self (stepHeat w p))) (is-self (v 288160))) (is-self (v (temperature v target)))))
+      (is-add (is-minus (is-self (v (temperature v target))) (is-self (v fifteenDegrees)))
+      (is-minus (is-add (is-add (is-self (held w s st)) (is-self (stepHeat w p))) (is-self (v fifteenDegrees))) (is-self (v (temperature v target)))))
       (is-add (is-self (held w s st)) (is-self (stepHeat w p)))
       (omega arith))
 

@@ -7,6 +7,7 @@ use lib.IntN.{ℤ, pos, negℤ, _+ℤ_, _*ℤ_}
 use lib.Signed.{ltZ}
 use Rattle.signed.specs.Zed.{up, outside}
 use Rattle.refusal.specs.Refusals.{Told, Line, _when_, first, andThen}
+use Rattle.air.specs.Limits.{fifteenDegrees}
 use Rattle.air.specs.Inverse.{temperature, rest, looks, unreached}
 use Rattle.gas.specs.declared.Charge.{Charge}
 use Rattle.gas.specs.declared.Gas.{Gas}
@@ -60,7 +61,7 @@ pub record Asked : Type 0 where
 
 -- target content above 15 °C of the new charge = content of the old charge at its rounded temperature + step heat; as a gas heat, that and the heat at 15 °C
 abbrev pub askedOf : Weights → List ℕ → ℤ → Gas → Step → Asked
-askedOf w s content g p = record { gas = newGas g p; target = content +ℤ stepHeat w p +ℤ gasHeat w s (newGas g p) 288160 }
+askedOf w s content g p = record { gas = newGas g p; target = content +ℤ stepHeat w p +ℤ gasHeat w s (newGas g p) fifteenDegrees }
 
 unfoldable pub asked : Weights → List ℕ → ℤ → Gas → Step → Told Asked
 asked w s content g p = first (askLines w g p) (askedOf w s content g p)

@@ -9,31 +9,27 @@ use lib.IntN.{ℤ, pos}
 use lib.ListN.{length, getD, take, drop}
 use Rattle.signed.specs.Zed.{up}
 use Rattle.refusal.specs.Refusals.{Told, gives, refused, Line, _when_, first, lineNumber, First, numberOf}
+use Rattle.air.specs.Limits.{lookPlaces}
 use Rattle.air.specs.Halving.{eleven}
 use Rattle.gas.specs.declared.Charge.{Charge}
 use Rattle.gas.specs.declared.Gas.{Gas}
 use Rattle.gas.specs.Burning.{Weights, document01, gasOf}
 use Rattle.gas.specs.Answers.{chargeLines, temperatureLines}
+use Rattle.walk.specs.Limits.{stepNumbers, mostNumbers}
 use Rattle.walk.specs.declared.WalkAnswer.{WalkAnswer}
 use Rattle.walk.specs.declared.WalkAnswer.the-variants.{Done, Stopped, Refused}
 use Rattle.walk.specs.Lists.{Lists, lists, laid}
 use Rattle.walk.specs.declared.Step.{Step}
 use Rattle.walk.specs.Step.{State, Out, judge, stepOrder}
 
--- each step is four signed 64-bit numbers; walks of up to 64 steps
-abbrev pub width : ℕ
-width = 4
-
-abbrev pub mostSteps : ℕ
-mostSteps = 64
-
+-- the step that begins a list of numbers
 abbrev pub stepAt : List ℤ → Step
 stepAt l = record { carbon = getD l 0 (pos 0); hydrogen = getD l 1 (pos 0); value = getD l 2 (pos 0); heat = getD l 3 (pos 0) }
 
 -- the first n steps of a list of numbers
 unfoldable pub stepsOf : ℕ → List ℤ → List Step
 stepsOf zero l = []
-stepsOf (suc n) l = stepAt l ∷ stepsOf n (drop width l)
+stepsOf (suc n) l = stepAt l ∷ stepsOf n (drop stepNumbers l)
 
 -- ---- the run over the steps
 -- how it ends: after the last step, or before a step that is refused with this number
@@ -76,18 +72,18 @@ pub record FirstRefused (w : Weights) (s : List ℕ) (st : State) (ps : List Ste
   pub number-is : lineNumber line ≡ n
 
 -- ---- the start
--- 13: steps list not a multiple of four long, or over 256
+-- 13: steps list not a multiple of four long, or over the most numbers
 abbrev pub wrongSteps : ℕ → Bool
-wrongSteps numbers = not (eqb (numbers % width) 0) || ltb (width * mostSteps) numbers
+wrongSteps numbers = not (eqb (numbers % stepNumbers) 0) || ltb mostNumbers numbers
 
 -- 10: for n steps, the temperature or rest list is shorter than n, or the looks list shorter than 11n
 abbrev pub shortLists : ℕ → ℕ → ℕ → ℕ → Bool
-shortLists n temperatures rests looks = ltb temperatures n || (ltb rests n || ltb looks (11 * n))
+shortLists n temperatures rests looks = ltb temperatures n || (ltb rests n || ltb looks (lookPlaces * n))
 
 -- 13, 10, then the starting charge (4, 5) and temperature (6)
 abbrev pub startLines : Weights → Charge → ℤ → ℕ → ℕ → ℕ → ℕ → List Line
 startLines w ch mk numbers temperatures rests looks =
-    13 when wrongSteps numbers ∷ 10 when shortLists (numbers / width) temperatures rests looks ∷ (chargeLines w ch ++ temperatureLines mk)
+    13 when wrongSteps numbers ∷ 10 when shortLists (numbers / stepNumbers) temperatures rests looks ∷ (chargeLines w ch ++ temperatureLines mk)
 
 abbrev pub startState : Charge → ℤ → State
 startState ch mk = record { gas = gasOf ch; mk = up mk }
@@ -95,7 +91,7 @@ startState ch mk = record { gas = gasOf ch; mk = up mk }
 -- a walk past the lines given: the first refusal among them and of its start, else its run
 unfoldable pub walked : List Line → Weights → List ℕ → Charge → ℤ → List ℤ → ℕ → ℕ → ℕ → Told Trace
 walked lines w s ch mk numbers temperatures rests looks =
-    first (lines ++ startLines w ch mk (length numbers) temperatures rests looks) (run w s (startState ch mk) (stepsOf (length numbers / width) numbers))
+    first (lines ++ startLines w ch mk (length numbers) temperatures rests looks) (run w s (startState ch mk) (stepsOf (length numbers / stepNumbers) numbers))
 
 -- the same with these lists lent
 abbrev pub walkedInto : Lists → List Line → Weights → List ℕ → Charge → ℤ → List ℤ → Told Trace

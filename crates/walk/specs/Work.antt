@@ -9,12 +9,14 @@ use lib.IntN.{ℤ, pos, _+ℤ_, _-ℤ_}
 use lib.Signed.{ltZ}
 use Rattle.signed.specs.Zed.{up, dn, inZ, outside}
 use Rattle.refusal.specs.Refusals.{Told, gives, refused, refuses, numberOf}
+use Rattle.air.specs.Limits.{fifteenDegrees}
 use Rattle.air.specs.declared.Millikelvin.{Millikelvin}
 use Rattle.air.specs.Halving.{eleven}
 use Rattle.gas.specs.declared.Heat.{Heat}
 use Rattle.gas.specs.declared.Gas.{Gas}
 use Rattle.gas.specs.Burning.{document01, Burns}
 use Rattle.gas.specs.Heat.{gasHeat}
+use Rattle.walk.specs.Limits.{stepNumbers}
 use Rattle.walk.specs.declared.stepping.Standing.{Standing}
 use Rattle.walk.specs.declared.stepping.Asking.{Asking}
 use Rattle.walk.specs.declared.stepping.Ask.{Ask}
@@ -38,7 +40,7 @@ pub record Stands (s : List ℕ) (st : Standing) : Type 0 where
   pub burns : Burns document01 (st .gas)
   pub covered : inZ (pos 200000) (pos 2000000) (st .t .0) ≡ true
   pub heat-is : st .heat .0 ≡ gasHeat document01 s (st .gas) (up (st .t .0))
-  pub fifteen-is : st .fifteen .0 ≡ gasHeat document01 s (st .gas) 288160
+  pub fifteen-is : st .fifteen .0 ≡ gasHeat document01 s (st .gas) fifteenDegrees
 
 -- a walk that begins with this gas at this temperature
 pub record Begun (s : List ℕ) (g : Gas) (t : Millikelvin) (st : Standing) : Type 0 where
@@ -47,7 +49,7 @@ pub record Begun (s : List ℕ) (g : Gas) (t : Millikelvin) (st : Standing) : Ty
 
 -- the step at an index of a list of numbers
 abbrev pub stepNo : List ℤ → ℕ → Step
-stepNo l i = record { carbon = getD l (4 * i) (pos 0); hydrogen = getD l (4 * i + 1) (pos 0); value = getD l (4 * i + 2) (pos 0); heat = getD l (4 * i + 3) (pos 0) }
+stepNo l i = record { carbon = getD l (stepNumbers * i) (pos 0); hydrogen = getD l (stepNumbers * i + 1) (pos 0); value = getD l (stepNumbers * i + 2) (pos 0); heat = getD l (stepNumbers * i + 3) (pos 0) }
 
 -- ---- what a step asks
 -- a count of atoms with more added is wrong where atoms are taken away, or leave their limit
@@ -80,7 +82,7 @@ paperAsk (AskRefused n) = refuses n
 
 -- a new gas that burns, with its heat at 15 °C
 pub data AsksOf (s : List ℕ) : Ask → Type 0 where
-  burning : {a : Asking} → Burns document01 (a .gas) → a .fifteen .0 ≡ gasHeat document01 s (a .gas) 288160 → AsksOf s (For a)
+  burning : {a : Asking} → Burns document01 (a .gas) → a .fifteen .0 ≡ gasHeat document01 s (a .gas) fifteenDegrees → AsksOf s (For a)
   none : {n : ℕ} → AsksOf s (AskRefused n)
 
 pub record Asks (told : Told Asked) (s : List ℕ) (r : Ask) : Type 0 where

@@ -15,8 +15,10 @@ ghost use Rattle.signed.specs.Zed.{up, inZ};
 ghost use mathlib.Core.Bool.{true};
 ghost use Rattle.rows.specs.Rows.{rowsH};
 ghost use Rattle.refusal.specs.Refusals.{gives};
+ghost use Rattle.air.specs.Limits.{lookPlaces};
 ghost use Rattle.sheet.specs.Sheet.{Accepted};
 ghost use Rattle.gas.specs.Burning.{document01, Limits, Burns};
+ghost use Rattle.walk.specs.Limits.{stepNumbers, mostSteps};
 ghost use Rattle.walk.specs.Lists.{lists};
 ghost use Rattle.walk.specs.Walk.{chargeOf, ended, cut, courseOf, paperWalk, run, stepsOf, Walks};
 ghost use Rattle.walk.specs.Work.{stateOf, Stands, Begun, stepNo};
@@ -42,13 +44,13 @@ pub(crate) fn begin(gas: Gas, t: Millikelvin, sheet: &[u32], air: &[u32; 1801]) 
         gas,
         t,
         heat: gas::inner::heat_at(gas, t, sheet, air),
-        fifteen: gas::inner::heat_at(gas, Millikelvin(288160), sheet, air),
+        fifteen: gas::inner::heat_at(gas, Millikelvin(air::FIFTEEN_DEGREES), sheet, air),
     }
 }
 
 // A walk done to its end.
 fn done(n: usize, st: Standing) -> WalkAnswer
-    requires { ⌜ (n ≤ 64) × Limits document01 (st .gas) × (inZ (pos 200000) (pos 2000000) (st .t .0) ≡ true) ⌝ }
+    requires { ⌜ (n ≤ mostSteps) × Limits document01 (st .gas) × (inZ (pos 200000) (pos 2000000) (st .t .0) ≡ true) ⌝ }
     ensures { λ r. ⌜ paperWalk r ≡ gives (courseOf n (ended (stateOf st))) ⌝ }
 {
     let gas = st.gas;
@@ -58,7 +60,7 @@ fn done(n: usize, st: Standing) -> WalkAnswer
 
 // A walk stopped at its step n.
 fn stopped(n: usize, number: u32, st: Standing) -> WalkAnswer
-    requires { ⌜ (n ≤ 64) × Limits document01 (st .gas) × (inZ (pos 200000) (pos 2000000) (st .t .0) ≡ true) ⌝ }
+    requires { ⌜ (n ≤ mostSteps) × Limits document01 (st .gas) × (inZ (pos 200000) (pos 2000000) (st .t .0) ≡ true) ⌝ }
     ensures { λ r. ⌜ paperWalk r ≡ gives (courseOf n (cut number (stateOf st))) ⌝ }
 {
     let gas = st.gas;
@@ -68,10 +70,10 @@ fn stopped(n: usize, number: u32, st: Standing) -> WalkAnswer
 
 // The step at an index of the list.
 fn step_at(steps: &[i64], i: usize) -> Step
-    requires { ⌜ (i ≤ 64) × (4 * i + 4 ≤ length (now steps)) ⌝ }
+    requires { ⌜ (i ≤ mostSteps) × (stepNumbers * i + stepNumbers ≤ length (now steps)) ⌝ }
     ensures { λ r. ⌜ r ≡ stepNo (now (steps .entry)) i ⌝ }
 {
-    let at = 4 * i;
+    let at = crate::STEP_NUMBERS * i;
     Step {
         carbon: steps[at],
         hydrogen: steps[at + 1],
@@ -92,7 +94,7 @@ pub(crate) fn go(
     air: &[u32; 1801],
 ) -> WalkAnswer
     requires { ⌜ Stands (now sheet) start × Accepted (now sheet) × (now air ≡ rowsH) ⌝ }
-    requires { ⌜ (n ≤ 64) × (4 * n ≤ length (now steps)) × (n ≤ length (now temperatures)) × (n ≤ length (now rests)) × (11 * n ≤ length (now looks)) ⌝ }
+    requires { ⌜ (n ≤ mostSteps) × (stepNumbers * n ≤ length (now steps)) × (n ≤ length (now temperatures)) × (n ≤ length (now rests)) × (lookPlaces * n ≤ length (now looks)) ⌝ }
     ensures { λ r. ⌜ Walks (gives (run document01 (now (sheet .entry)) (stateOf start) (stepsOf n (now (steps .entry)))))
         (lists (now (temperatures .entry)) (now (rests .entry)) (now (looks .entry))) r
         (lists (now (temperatures .exit)) (now (rests .exit)) (now (looks .exit))) ⌝ }
@@ -100,7 +102,7 @@ pub(crate) fn go(
     let mut st = start;
     let mut i: usize = 0;
     while i < n {
-        let place = 11 * i;
+        let place = air::LOOK_PLACES * i;
         match stepping::step(st, step_at(steps, i), &mut looks[place..], sheet, air) {
             Stepped::Refused(number) => {
                 return stopped(i, number, st);

@@ -10,22 +10,23 @@ ghost use mathlib.Core.List.{[]};
 ghost use Prim.Native.Nat.{_≤_};
 ghost use Rattle.rows.specs.Rows.{rowsH};
 ghost use Rattle.sheet.specs.Sheet.{Accepted};
+ghost use Rattle.walk.specs.Limits.{mostSteps};
 ghost use Rattle.walk.specs.Lists.{lists};
 ghost use Rattle.walk.specs.Walk.{wrongSteps, shortLists, WalkPromise};
 
-// Whether a list of steps is no multiple of four numbers, or over 256.
+// Whether a list of steps is no multiple of four numbers, or over the most.
 fn wrong_steps(numbers: usize) -> bool
     ensures { λ r. ⌜ r ≡ wrongSteps numbers ⌝ }
 {
-    if numbers % 4 != 0 {
+    if numbers % crate::STEP_NUMBERS != 0 {
         return true;
     }
-    numbers > 256
+    numbers > crate::MOST_NUMBERS
 }
 
 // Whether a lent list is too short for n steps.
 fn short_lists(n: usize, temperatures: usize, rests: usize, looks: usize) -> bool
-    requires { ⌜ n ≤ 64 ⌝ }
+    requires { ⌜ n ≤ mostSteps ⌝ }
     ensures { λ r. ⌜ r ≡ shortLists n temperatures rests looks ⌝ }
 {
     if temperatures < n {
@@ -34,7 +35,7 @@ fn short_lists(n: usize, temperatures: usize, rests: usize, looks: usize) -> boo
     if rests < n {
         return true;
     }
-    looks < 11 * n
+    looks < air::LOOK_PLACES * n
 }
 
 // A walk over an accepted sheet: refusals 13, 10, 4, 5, 6, then the steps.
@@ -56,7 +57,7 @@ pub fn walk_judged(
     if wrong_steps(steps.len()) {
         return WalkAnswer::Refused(Refusal::Plain(crate::STEPS));
     }
-    let n = steps.len() / 4;
+    let n = steps.len() / crate::STEP_NUMBERS;
     if short_lists(n, temperatures.len(), rests.len(), looks.len()) {
         return WalkAnswer::Refused(Refusal::Plain(air::LIST_SHORT));
     }

@@ -1,4 +1,4 @@
-// The walk (document 01, "The walk"): up to 64 steps of fuel and heat from a starting charge, temperature and sheet, each step's temperature, rest and looks in lent
+// The walk (document 01, "The walk"): steps of fuel and heat from a starting charge, temperature and sheet, each step's temperature, rest and looks in lent
 // lists. The promise fixes what comes back and every place of the three lists for any input: what the answer tells is the first refusal of the start, else the run
 // over the steps up to the first that is refused (specs/Walk.antt, specs/Step.antt). Demand 3 is a theorem about every outcome that meets it (specs/Demand3.antt).
 mod course;
@@ -29,7 +29,14 @@ pub enum WalkAnswer {
     Refused(Refusal),
 }
 
-// steps list not a multiple of four long, or over 256
+// numbers of a step
+pub const STEP_NUMBERS: usize = 4;
+// steps of the longest walk, their numbers, and the places for their looks
+pub const MOST_STEPS: usize = 64;
+pub const MOST_NUMBERS: usize = STEP_NUMBERS * MOST_STEPS;
+pub const MOST_LOOKS: usize = air::LOOK_PLACES * MOST_STEPS;
+
+// steps list not a multiple of four long, or over the most numbers
 pub const STEPS: u32 = 13;
 
 // The walk of a charge from a temperature over the steps, four numbers each. Step i writes place i of the temperatures and rests, and the eleven places of looks from

@@ -16,6 +16,7 @@ ghost use mir.Val.{SFits};
 ghost use Rattle.rows.specs.Rows.{rowsH};
 ghost use Rattle.signed.specs.Zed.{up};
 ghost use Rattle.refusal.specs.Refusals.{first, _when_};
+ghost use Rattle.air.specs.Limits.{lookPlaces};
 ghost use Rattle.sheet.specs.Sheet.{Accepted};
 ghost use Rattle.gas.specs.Burning.{document01, Limits};
 ghost use Rattle.walk.specs.Step.{newGas, stepHeat, wrongAtoms, wrongHeat, asked, held, judge};
@@ -143,7 +144,7 @@ fn asked_of(st: Standing, p: Step, sheet: &[u32], air: &[u32; 1801]) -> Ask
             if !gas::inner::lean(gas) {
                 return Ask::Refused(gas::RICH);
             }
-            let fifteen = gas::inner::heat_at(gas, Millikelvin(288160), sheet, air);
+            let fifteen = gas::inner::heat_at(gas, Millikelvin(air::FIFTEEN_DEGREES), sheet, air);
             let target = target(st.heat, st.fifteen, step_heat(old, p), fifteen);
             Ask::For(Asking {
                 gas,
@@ -177,7 +178,7 @@ pub(crate) fn step(
     sheet: &[u32],
     air: &[u32; 1801],
 ) -> Stepped
-    requires { ⌜ Stands (now sheet) st × Accepted (now sheet) × (now air ≡ rowsH) × (11 ≤ length (now looks)) ⌝ }
+    requires { ⌜ Stands (now sheet) st × Accepted (now sheet) × (now air ≡ rowsH) × (lookPlaces ≤ length (now looks)) ⌝ }
     ensures { λ r. ⌜ StepGives (judge document01 (now (sheet .entry)) (stateOf st) p) (now (sheet .entry)) (now (looks .entry)) r (now (looks .exit)) ⌝ }
 {
     match asked_of(st, p, sheet, air) {

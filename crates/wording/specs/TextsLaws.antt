@@ -11,6 +11,7 @@ use lib.IntN.{ℤ, pos}
 use lib.ListN.{length, take, drop, getD, replicate, length-drop}
 use lib.Seq.{take-suc, drop-cons}
 use Rattle.signed.specs.Zed.{eqZ}
+use Rattle.air.specs.Limits.{lookPlaces}
 use Rattle.text.specs.Decimal.{decimal}
 use Rattle.air.specs.Halving.{halving, eleven}
 use Rattle.air.specs.HalvingLaws.{halving-ind}
@@ -84,21 +85,21 @@ halving-above p =
 
 pub used-eleven : (v : ℕ → ℤ) (t : ℤ) → used (eleven (looks v t)) ≡ looks v t
 unfolding eleven looks
-used-eleven v t = used-above (11 - length (looks v t)) (above (eqZ t (v 2000000)))
+used-eleven v t = used-above (lookPlaces - length (looks v t)) (above (eqZ t (v 2000000)))
   where
     above : (b : Bool) → Above (cond b [] (halving (λ k. fits v t (1000 * k)) 200 2000 .looks))
     above true = none
     above false = halving-above (λ k. fits v t (1000 * k))
 
 -- an inverse from the places that it was lent, eleven of them and all 0 before: they hold its looks
-pub inverse-shown : (v : ℕ → ℤ) (t : ℤ) (told : Told Found) → inverseText told (used (written told (looks v t) (replicate 11 0))) ≡ inverseText told (looks v t)
+pub inverse-shown : (v : ℕ → ℤ) (t : ℤ) (told : Told Found) → inverseText told (used (written told (looks v t) (replicate lookPlaces 0))) ≡ inverseText told (looks v t)
 inverse-shown v t (gives f) = ap (inverseText (gives f)) (ap used (append-nil (eleven (looks v t))) ∙ used-eleven v t)
 inverse-shown v t (refused r) = refl
 
-pub psi-shown : {target : ℤ} {r : PsiAnswer} {after : List ℕ} → PsiInverse target (replicate 11 0) r after
-    → inverseText (paperPsi r) (used after) ≡ inverseText (psiInverseTold 11 target) (looks psiValue target)
-psi-shown {target} {r} p = rw (p .told, p .list) (inverse-shown psiValue target (psiInverseTold 11 target))
+pub psi-shown : {target : ℤ} {r : PsiAnswer} {after : List ℕ} → PsiInverse target (replicate lookPlaces 0) r after
+    → inverseText (paperPsi r) (used after) ≡ inverseText (psiInverseTold lookPlaces target) (looks psiValue target)
+psi-shown {target} {r} p = rw (p .told, p .list) (inverse-shown psiValue target (psiInverseTold lookPlaces target))
 
-pub temperature-shown : (ch : Charge) (target : ℤ) (s : List ℕ) {r : TemperatureAnswer} {after : List ℕ} → Temperature document01 ch target s (replicate 11 0) r after
-    → inverseText (paperTemperature r) (used after) ≡ inverseText (temperatureTold document01 ch target s 11) (looks (gasHeat document01 s (gasOf ch)) target)
-temperature-shown ch target s p = rw (p .told, p .list) (inverse-shown (gasHeat document01 s (gasOf ch)) target (temperatureTold document01 ch target s 11))
+pub temperature-shown : (ch : Charge) (target : ℤ) (s : List ℕ) {r : TemperatureAnswer} {after : List ℕ} → Temperature document01 ch target s (replicate lookPlaces 0) r after
+    → inverseText (paperTemperature r) (used after) ≡ inverseText (temperatureTold document01 ch target s lookPlaces) (looks (gasHeat document01 s (gasOf ch)) target)
+temperature-shown ch target s p = rw (p .told, p .list) (inverse-shown (gasHeat document01 s (gasOf ch)) target (temperatureTold document01 ch target s lookPlaces))

@@ -11,6 +11,7 @@ use mir.Syntax.{w64}
 use mir.Val.{SFits, toZ, ofZ}
 use Rattle.signed.specs.Zed.{back, lt-read, apart, zed}
 use Rattle.refusal.specs.declared.Refusal.the-variants.{Plain}
+use Rattle.air.specs.Limits.{lookPlaces}
 use Rattle.air.specs.declared.PsiAnswer.the-variants.{Refused}
 use Rattle.refusal.specs.Refusals.{here, after, none, clear, Clear}
 use Rattle.air.specs.Answers.{psiValue, psiOrder}
@@ -19,7 +20,7 @@ use Rattle.air.proofs.psi_inverse.Statement.{statement}
 use Rattle.air.proofs.psi_inverse.Tie as tie
 
 returns : tie.Need-returns
-returns c = psi-refused _ _ (Refused (Plain 10)) (here (lt-ltb _ 11 (c .if1 .taken))) refl
+returns c = psi-refused _ _ (Refused (Plain 10)) (here (lt-ltb _ lookPlaces (c .if1 .taken))) refl
 
 psi-column-requires : tie.Need-psi-column-requires
 psi-column-requires c κs = search needs
@@ -34,8 +35,8 @@ of-u64-requires : tie.Need-of-u64-requires
 of-u64-requires c κs = search needs
 
 -- the list has room
-room : (c : tie.Else1) → ltb (length (c .before .before .args .looks .now)) 11 ≡ false
-room c = le-ltb _ 11 (c .if1 .left)
+room : (c : tie.Else1) → ltb (length (c .before .before .args .looks .now)) lookPlaces ≡ false
+room c = le-ltb _ lookPlaces (c .if1 .left)
 
 -- the test against psi at 200 K
 at-200 : (c : tie.After-of-u64) {t : Bool} → ltZ (toZ w64 (ofZ w64 (c .before .before .before .before .before .before .args .target))) (toZ w64 (ofZ w64 (c .of-u64 .result))) ≡ t

@@ -4,6 +4,7 @@ use mathlib.Core.List.{_∷_}
 use lib.Dec.{ltb}
 use lib.ListN.{length}
 use Rattle.refusal.specs.Refusals.{_when_}
+use Rattle.air.specs.Limits.{lookPlaces}
 use Rattle.sheet.specs.Answers.{paper}
 use Rattle.sheet.specs.AnswersLaws.{accepted-of-told, stopped-by-sheet}
 use Rattle.gas.specs.AnswersLaws.{stopped-told}
@@ -38,7 +39,7 @@ returns-2 : tie.Need-returns-2
 returns-2 c =
     let s = c .before .before .before .before .before .before .before .before in
     stopped-told (gasHeat document01 (s .args .sheet .now) (gasOf (s .args .charge))) (s .args .target .0) (s .args .looks .now) (searchOrder document01 (s .args .charge) (s .args .sheet .now) (length (s .args .looks .now))) (gasOf (s .args .charge)) (c .before .r .given .0 .0)
-    (sym (stopped-by-sheet (s .args .sheet .now) (c .before .r .given .0 .0) (10 when ltb (length (s .args .looks .now)) 11 ∷ chargeLines document01 (s .args .charge)) _ (ap paper (sym (c .before .r .given .1)) ∙ c .before .before .before .judge .ensures)))
+    (sym (stopped-by-sheet (s .args .sheet .now) (c .before .r .given .0 .0) (10 when ltb (length (s .args .looks .now)) lookPlaces ∷ chargeLines document01 (s .args .charge)) _ (ap paper (sym (c .before .r .given .1)) ∙ c .before .before .before .judge .ensures)))
 
 pub temperature-spec : {M : Type 1} → statement M
 temperature-spec =

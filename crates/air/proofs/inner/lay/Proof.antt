@@ -7,6 +7,7 @@ use native.Mathlib.Numerals.{add-one}
 use native.Mathlib.Omega.{arith}
 use lib.ListN.{length, take, drop, set, getD, length-set}
 use lib.Seq.{paste, paste-suc, take-all}
+use Rattle.air.specs.Limits.{lookPlaces}
 use Rattle.air.proofs.inner.lay.Statement.{statement}
 use Rattle.air.proofs.inner.lay.Tie as tie
 
@@ -18,10 +19,10 @@ more i l xs h k =
     rw (add-one i, z, y) (rw (z, y) at (paste-suc l 0 xs i 0 (omega arith) k))
 
 abbrev Inv-loop : tie.InvT-loop
-Inv-loop eleven looks₀ i₀ looks i = (i ≤ 11) × (looks ≡ paste looks₀ 0 eleven i) × (length looks ≡ length looks₀)
+Inv-loop eleven looks₀ i₀ looks i = (i ≤ lookPlaces) × (looks ≡ paste looks₀ 0 eleven i) × (length looks ≡ length looks₀)
 
 abbrev μ-loop : tie.MeasureT-loop
-μ-loop eleven looks₀ i₀ looks i = 11 - i
+μ-loop eleven looks₀ i₀ looks i = lookPlaces - i
 
 loop-holds : tie.Need-loop-holds Inv-loop μ-loop
 loop-holds c = (omega arith, refl, refl)
@@ -57,8 +58,8 @@ same-length c = c .before .loop .inv .2
 returns : tie.Need-returns Inv-loop μ-loop
 returns c =
     let s = c .before .before in
-    let e : c .before .loop .i ≡ 11 = omega arith in
-    rw (e, take-all 11 (s .args .eleven .now) (omega arith)) at (c .before .loop .inv .1)
+    let e : c .before .loop .i ≡ lookPlaces = omega arith in
+    rw (e, take-all lookPlaces (s .args .eleven .now) (omega arith)) at (c .before .loop .inv .1)
 
 pub lay-spec : {M : Type 1} → statement M
 lay-spec =

@@ -6,6 +6,7 @@ use lib.IntN.{pos}
 use mir.Syntax.{w64}
 use mir.Val.{SFits}
 use Rattle.signed.specs.Zed.{back}
+use Rattle.air.specs.Limits.{lookPlaces}
 use Rattle.console.specs.WalksLaws.{Putting, none-put, one-more, all-put}
 use Prim.Native.Nat.{_-_}
 use native.Mathlib.Omega.{arith}
@@ -67,7 +68,7 @@ loop-again : tie.Need-loop-again Inv-loop μ-loop
 loop-again c =
     let f0 : SFits w64 (getD (c .before .before .before .before .before .before .before .before .before .before .before .args .temperatures .now) (c .before .before .before .before .before .before .before .before .loop .i) (pos 0)) = search needs in
     let f1 : SFits w64 (getD (c .before .before .before .before .before .before .before .before .before .before .before .args .rests .now) (c .before .before .before .before .before .before .before .before .loop .i) (pos 0)) = search needs in
-    let e : 11 * (c .before .before .before .before .before .before .before .before .loop .i) + 11 - 11 * (c .before .before .before .before .before .before .before .before .loop .i) ≡ 11 = omega arith in
+    let e : lookPlaces * (c .before .before .before .before .before .before .before .before .loop .i) + lookPlaces - lookPlaces * (c .before .before .before .before .before .before .before .before .loop .i) ≡ lookPlaces = omega arith in
     one-more (c .before .before .before .before .before .before .before .before .before .before .before .args .layout) (c .before .before .before .before .before .before .before .before .before .before .before .args .n) (c .before .before .before .before .before .before .before .before .before .before .before .args .temperatures .now) (c .before .before .before .before .before .before .before .before .before .before .before .args .rests .now) (c .before .before .before .before .before .before .before .before .before .before .before .args .looks .now) (c .before .before .before .before .before .before .before .before .loop .inv) (omega arith) (rw (back f0, back f1, e) at (c .before .before .put-step .ensures))
 
 same-length : tie.Need-same-length Inv-loop μ-loop

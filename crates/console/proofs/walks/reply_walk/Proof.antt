@@ -1,4 +1,5 @@
 use mathlib.Core.Path.{refl}
+use Rattle.console.specs.Limits.{heldNumbers}
 use Rattle.console.specs.WalksLaws.{walk-misfit, walk-kept}
 use Rattle.fields.specs.FieldsLaws.{held-most}
 use Rattle.fields.specs.Fields.{fieldsFrom}
@@ -28,7 +29,7 @@ same-length : tie.Need-same-length
 same-length c = search needs
 
 returns : tie.Need-returns
-returns c = rw (← walk-misfit (c .before .before .before .before .before .before .before .before .before .before .before .before .args .verdict) (c .before .before .before .before .before .before .before .before .before .before .before .before .args .sheet .now) (fieldsFrom (c .before .before .before .before .before .before .before .before .before .before .before .before .args .line .now) (c .before .before .before .before .before .before .before .before .before .before .before .before .args .from)) (replicate 261 (pos 0)) (c .before .before .before .before .before .before .before .read-numbers .last .1 .1 .0) refl (c .before .before .before .before .before .before .before .read-numbers .result) (c .before .before .before .before .before .held-of .result) (c .before .before .before .before .before .before .before .read-numbers .ensures .0) (c .before .before .before .before .before .held-of .ensures) (c .before .before .before .before .if1 .taken)) (c .before .before .put-misfit .ensures)
+returns c = rw (← walk-misfit (c .before .before .before .before .before .before .before .before .before .before .before .before .args .verdict) (c .before .before .before .before .before .before .before .before .before .before .before .before .args .sheet .now) (fieldsFrom (c .before .before .before .before .before .before .before .before .before .before .before .before .args .line .now) (c .before .before .before .before .before .before .before .before .before .before .before .before .args .from)) (replicate heldNumbers (pos 0)) (c .before .before .before .before .before .before .before .read-numbers .last .1 .1 .0) refl (c .before .before .before .before .before .before .before .read-numbers .result) (c .before .before .before .before .before .held-of .result) (c .before .before .before .before .before .before .before .read-numbers .ensures .0) (c .before .before .before .before .before .held-of .ensures) (c .before .before .before .before .if1 .taken)) (c .before .before .put-misfit .ensures)
 
 array-copy-out-t19 : tie.Need-array-copy-out-t19
 array-copy-out-t19 c = search needs
@@ -46,7 +47,7 @@ part-show-start : tie.Need-part-show-start
 part-show-start c = search needs
 
 part-show-end : tie.Need-part-show-end
-part-show-end c = omega (arith, (c .before .before .before .before .before .before .held-of .ensures), held-most (c .before .before .before .before .before .before .before .before .read-numbers .result) 261)
+part-show-end c = omega (arith, (c .before .before .before .before .before .before .held-of .ensures), held-most (c .before .before .before .before .before .before .before .before .read-numbers .result) heldNumbers)
 
 show-requires : tie.Need-show-requires
 show-requires c κs = search needs
@@ -60,7 +61,7 @@ returns-2 c =
     let f1 : SFits w64 (getD (c .before .before .before .before .before .before .before .before .before .before .before .before .before .read-numbers .last .1 .1 .0) 1 (pos 0)) = search needs in
     let f2 : SFits w64 (getD (c .before .before .before .before .before .before .before .before .before .before .before .before .before .read-numbers .last .1 .1 .0) 2 (pos 0)) = search needs in
     let f3 : SFits w64 (getD (c .before .before .before .before .before .before .before .before .before .before .before .before .before .read-numbers .last .1 .1 .0) 3 (pos 0)) = search needs in
-    rw (walk-kept (c .before .before .before .before .before .before .before .before .before .before .before .before .before .before .before .before .before .before .args .verdict) (c .before .before .before .before .before .before .before .before .before .before .before .before .before .before .before .before .before .before .args .sheet .now) (fieldsFrom (c .before .before .before .before .before .before .before .before .before .before .before .before .before .before .before .before .before .before .args .line .now) (c .before .before .before .before .before .before .before .before .before .before .before .before .before .before .before .before .before .before .args .from)) (replicate 261 (pos 0)) (c .before .before .before .before .before .before .before .before .before .before .before .before .before .read-numbers .last .1 .1 .0) refl (c .before .before .before .before .before .before .before .before .before .before .before .before .before .read-numbers .result) (c .before .before .before .before .before .before .before .before .before .before .before .held-of .result) (c .before .before .before .before .before .before .before .before .before .before .before .before .before .read-numbers .ensures .0) (c .before .before .before .before .before .before .before .before .before .before .before .before .before .read-numbers .ensures .1) (c .before .before .before .before .before .before .before .before .before .before .before .held-of .ensures) (c .before .before .before .before .before .before .before .before .before .before .if1 .left)) at (rw (back f0, back f1, back f2, back f3) at (c .before .before .show .ensures))
+    rw (walk-kept (c .before .before .before .before .before .before .before .before .before .before .before .before .before .before .before .before .before .before .args .verdict) (c .before .before .before .before .before .before .before .before .before .before .before .before .before .before .before .before .before .before .args .sheet .now) (fieldsFrom (c .before .before .before .before .before .before .before .before .before .before .before .before .before .before .before .before .before .before .args .line .now) (c .before .before .before .before .before .before .before .before .before .before .before .before .before .before .before .before .before .before .args .from)) (replicate heldNumbers (pos 0)) (c .before .before .before .before .before .before .before .before .before .before .before .before .before .read-numbers .last .1 .1 .0) refl (c .before .before .before .before .before .before .before .before .before .before .before .before .before .read-numbers .result) (c .before .before .before .before .before .before .before .before .before .before .before .held-of .result) (c .before .before .before .before .before .before .before .before .before .before .before .before .before .read-numbers .ensures .0) (c .before .before .before .before .before .before .before .before .before .before .before .before .before .read-numbers .ensures .1) (c .before .before .before .before .before .before .before .before .before .before .before .held-of .ensures) (c .before .before .before .before .before .before .before .before .before .before .if1 .left)) at (rw (back f0, back f1, back f2, back f3) at (c .before .before .show .ensures))
 
 pub reply-walk-spec : {M : Type 1} → statement M
 reply-walk-spec =

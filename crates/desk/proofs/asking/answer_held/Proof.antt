@@ -1,3 +1,4 @@
+use Rattle.console.specs.Limits.{answerRoom}
 use Rattle.stream.specs.WritingLaws.{free-at, leaves-open, roomed-free}
 use Rattle.stream.specs.declared.Output.the-variants.{At}
 use mathlib.Core.Path.{refl}
@@ -15,7 +16,7 @@ returns : tie.Need-returns
 returns c = record { free = tt; closed = rw (c .enum-told .given .1) (refl, refl) }
 
 put-answer-requires : tie.Need-put-answer-requires
-put-answer-requires c κs = (c .before .before .before .before .before .before .before .pre .0, free-at (c .before .before .before .before .before .before .before .args .out .now) (c .before .before .output .given .1) (c .before .before .before .before .before .before .before .pre .2) (c .before .before .before .before .before .before .before .pre .1))
+put-answer-requires c κs = (c .before .before .before .before .before .before .before .pre .0, free-at answerRoom (c .before .before .before .before .before .before .before .args .out .now) (c .before .before .output .given .1) (c .before .before .before .before .before .before .before .pre .2) (c .before .before .before .before .before .before .before .pre .1))
 
 make-room-requires : tie.Need-make-room-requires
 make-room-requires c κs = search needs

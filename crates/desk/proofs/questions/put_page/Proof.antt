@@ -7,6 +7,8 @@ use mir.Syntax.{w64}
 use lib.IntN.{pos}
 use lib.ListN.{getD}
 use borrow.Author.Needs.{needs}
+use Rattle.walk.specs.Limits.{stepNumbers}
+use Rattle.desk.specs.Limits.{keptLines}
 use Rattle.desk.proofs.questions.put_page.Statement.{statement}
 use Rattle.desk.proofs.questions.put_page.Tie as tie
 
@@ -49,7 +51,7 @@ returns c =
     let f1 : SFits w64 (getD (c .before .before .before .before .before .before .before .before .before .before .before .before .args .numbers .now) 1 (pos 0)) = search needs in
     let f2 : SFits w64 (getD (c .before .before .before .before .before .before .before .before .before .before .before .before .args .numbers .now) 2 (pos 0)) = search needs in
     let f3 : SFits w64 (getD (c .before .before .before .before .before .before .before .before .before .before .before .before .args .numbers .now) 3 (pos 0)) = search needs in
-    let e : 4 * c .before .before .before .before .before .kept .result - 4 ≡ 4 * min (c .before .before .before .before .before .before .before .before .before .before .before .before .args .lines) 66 - 4 = omega (arith, c .before .before .before .before .before .kept .ensures .1) in
+    let e : stepNumbers * c .before .before .before .before .before .kept .result - stepNumbers ≡ stepNumbers * min (c .before .before .before .before .before .before .before .before .before .before .before .before .args .lines) keptLines - 4 = omega (arith, c .before .before .before .before .before .kept .ensures .1) in
     rw (back f0, back f1, back f2, back f3, e) at (c .before .before .print-judged .ensures)
 
 pub put-page-spec : {M : Type 1} → statement M

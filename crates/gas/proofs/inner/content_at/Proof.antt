@@ -3,11 +3,12 @@ use mathlib.Core.Path.{_≡_, refl, _∙_}
 use mathlib.Core.Bool.{true}
 use lib.IntN.{pos}
 use Rattle.signed.specs.Zed.{up, inZ, in-range, apart, zed}
+use Rattle.air.specs.Limits.{fifteenDegrees}
 use Rattle.gas.specs.BoundsLaws.{content-fits}
 use Rattle.gas.proofs.inner.content_at.Statement.{statement}
 use Rattle.gas.proofs.inner.content_at.Tie as tie
 
-covered-15 : inZ (pos 200000) (pos 2000000) (pos 288160) ≡ true
+covered-15 : inZ (pos 200000) (pos 2000000) (pos fifteenDegrees) ≡ true
 unfolding inZ
 covered-15 = refl
 

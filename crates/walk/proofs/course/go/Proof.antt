@@ -2,6 +2,7 @@ use borrow.Author.Needs.{needs}
 use mathlib.Core.Path.{refl, _∙_}
 use Prim.Native.Nat.{_-_, _*_}
 use native.Mathlib.Omega.{arith}
+use Rattle.air.specs.Limits.{lookPlaces}
 use Rattle.walk.specs.Work.{stateOf}
 use Rattle.walk.proofs.Sofar.{Sofar, begin, turned, halted, finish}
 use Rattle.walk.proofs.Laid.{lent-room, length-back}
@@ -39,7 +40,7 @@ step-requires : tie.Need-step-requires Inv-loop μ-loop
 step-requires c κs =
     let b = c .before .before .before .loop in
     let s = c .before .before .before .before .before .before in
-    (b .inv .stands, s .pre .0 .1, s .pre .0 .2, lent-room (11 * b .i) 11 (b .looks) (omega arith))
+    (b .inv .stands, s .pre .0 .1, s .pre .0 .2, lent-room (lookPlaces * b .i) lookPlaces (b .looks) (omega arith))
 
 enum-known-number : tie.Need-enum-known-number Inv-loop μ-loop
 enum-known-number c = search needs
@@ -59,7 +60,7 @@ same-length-3 : tie.Need-same-length-3 Inv-loop μ-loop
 same-length-3 c =
     let b = c .before .before .before .before .before .before .before .before .before .before .loop in
     let s = c .before .before .before .before .before .before .step in
-    length-back (11 * b .i) (b .looks) (s .last .1 .1 .0) (omega arith) (s .kept .1 .1 .0) ∙ b .inv .same-l
+    length-back (lookPlaces * b .i) (b .looks) (s .last .1 .1 .0) (omega arith) (s .kept .1 .1 .0) ∙ b .inv .same-l
 
 returns : tie.Need-returns Inv-loop μ-loop
 returns c =

@@ -8,6 +8,7 @@ use Rattle.gas.specs.Answers.{paperGas}
 use Rattle.gas.specs.Burning.{document01}
 use Rattle.refusal.specs.Refusals.{gives}
 use Rattle.refusal.specs.declared.Refusal.the-variants.{Plain}
+use Rattle.walk.specs.Limits.{stepNumbers}
 use Rattle.walk.specs.Walk.{run, stepsOf, wrongSteps, shortLists}
 use Rattle.walk.specs.Step.{State}
 use Rattle.walk.proofs.Start.{start-refused, walks-as, few-steps, long-lists, told-13, told-10, told-start, Begins, told-begins, as-begun}
@@ -19,7 +20,7 @@ right : (c : tie.Else1) → wrongSteps (length (c .before .before .before .befor
 right c = sym (c .before .wrong-steps .ensures) ∙ c .if1 .left
 
 -- the lent lists are long enough
-room : (c : tie.Else2) → let s = c .before .before .before .before .before .before in shortLists (length (s .args .steps .now) / 4) (length (s .args .temperatures .now)) (length (s .args .rests .now)) (length (s .args .looks .now)) ≡ false
+room : (c : tie.Else2) → let s = c .before .before .before .before .before .before in shortLists (length (s .args .steps .now) / stepNumbers) (length (s .args .temperatures .now)) (length (s .args .rests .now)) (length (s .args .looks .now)) ≡ false
 room c = sym (c .before .short-lists .ensures) ∙ c .if2 .left
 
 -- the start is admitted
@@ -73,7 +74,7 @@ returns-4 c =
     let s = c .before .before .before .before .before .before .before .before .before .before .before .before .before .before .before .before .before .before .before in
     let b = begins (c .before .before .before .before .before .before .before .before .before .before) in
     let e = as-begun (s .args .sheet .now) (s .args .charge) (s .args .t) _ _ (b .gas-is) (c .before .before .before .before .before .before .before .before .begin .ensures) in
-    walks-as (ap (λ (q : State). gives (run document01 (s .args .sheet .now) q (stepsOf (length (s .args .steps .now) / 4) (s .args .steps .now)))) e ∙ sym (b .runs)) (c .before .before .before .before .go .ensures)
+    walks-as (ap (λ (q : State). gives (run document01 (s .args .sheet .now) q (stepsOf (length (s .args .steps .now) / stepNumbers) (s .args .steps .now)))) e ∙ sym (b .runs)) (c .before .before .before .before .go .ensures)
 
 pub walk-judged-spec : {M : Type 1} → statement M
 walk-judged-spec =
