@@ -6,6 +6,8 @@ mod heats;
 pub mod inner;
 mod search;
 
+pub use burning::MOST_ATOMS;
+
 use air::Millikelvin;
 use inner::Admitted;
 use refusal::Refusal;

@@ -34,34 +34,34 @@ module _ (have : ℕ) (more : ℤ) where
   sum-is = record { is = omega (arith, is-add (is-pos have) (is-self more)) }
 
   -- wrong where what is added is no count, or where the sum is too large
-  pub count-outside : have ≤ 50000 → outside (pos 0) (pos 50000) more ≡ true → wrongCount have more ≡ true
+  pub count-outside : have ≤ document01 .mostAtoms → outside (pos 0) (pos (document01 .mostAtoms)) more ≡ true → wrongCount have more ≡ true
   count-outside l e =
       by-bool (ltZ more (pos 0))
       (λ h. rw h refl)
       (λ h. rw (
         h,
-        outside-over (pos 0) (pos 50000) (pos have +ℤ more)
-            (by-bool (leZ more (pos 50000))
-            (λ k. absurd (let z : _≡_ {A = Bool} true false = sym e ∙ not-outside (pos 0) (pos 50000) more (omega (zed, apart more)) (omega zed) in let q : _≡_ {A = ℕ} 0 1 = cc in omega arith))
+        outside-over (pos 0) (pos (document01 .mostAtoms)) (pos have +ℤ more)
+            (by-bool (leZ more (pos (document01 .mostAtoms)))
+            (λ k. absurd (let z : _≡_ {A = Bool} true false = sym e ∙ not-outside (pos 0) (pos (document01 .mostAtoms)) more (omega (zed, apart more)) (omega zed) in let q : _≡_ {A = ℕ} 0 1 = cc in omega arith))
             (λ k. omega (zed, sum-is, apart more))),
       ) refl)
 
-  pub count-over : dn more ≡ 0 → 50000 < have + up more → wrongCount have more ≡ true
-  count-over d h = rw (no-ltZ more (pos 0) (omega arith), outside-over (pos 0) (pos 50000) (pos have +ℤ more) (omega (arith, sum-is))) refl
+  pub count-over : dn more ≡ 0 → document01 .mostAtoms < have + up more → wrongCount have more ≡ true
+  count-over d h = rw (no-ltZ more (pos 0) (omega arith), outside-over (pos 0) (pos (document01 .mostAtoms)) (pos have +ℤ more) (omega (arith, sum-is))) refl
 
-  pub count-right : dn more ≡ 0 → have + up more ≤ 50000 → wrongCount have more ≡ false
-  count-right d h = rw (no-ltZ more (pos 0) (omega arith), not-outside (pos 0) (pos 50000) (pos have +ℤ more) (omega (arith, sum-is)) (omega (arith, sum-is))) refl
+  pub count-right : dn more ≡ 0 → have + up more ≤ document01 .mostAtoms → wrongCount have more ≡ false
+  count-right d h = rw (no-ltZ more (pos 0) (omega arith), not-outside (pos 0) (pos (document01 .mostAtoms)) (pos have +ℤ more) (omega (arith, sum-is)) (omega (arith, sum-is))) refl
 
   -- a count that is right
   pub record Right : Type 0 where
     pub plain-more : dn more ≡ 0
-    pub sum-most : have + up more ≤ 50000
+    pub sum-most : have + up more ≤ document01 .mostAtoms
     pub sum-up : up (pos have +ℤ more) ≡ have + up more
 
   pub right : wrongCount have more ≡ false → Right
   right e =
-      let h = neither (ltZ more (pos 0)) (outside (pos 0) (pos 50000) (pos have +ℤ more)) e in
-      let k = in-range (pos 0) (pos 50000) (pos have +ℤ more) (not-false _ (h .1)) in
+      let h = neither (ltZ more (pos 0)) (outside (pos 0) (pos (document01 .mostAtoms)) (pos have +ℤ more)) e in
+      let k = in-range (pos 0) (pos (document01 .mostAtoms)) (pos have +ℤ more) (not-false _ (h .1)) in
       let d : dn more ≡ 0 = omega (zed, apart more, ltZ-false more (pos 0) (h .0)) in
       let u : up (pos have +ℤ more) ≡ have + up more = omega (zed, sum-is, apart (pos have +ℤ more), k .least) in
       record { plain-more = d; sum-most = omega (zed, sum-is, apart (pos have +ℤ more), k .most); sum-up = u }
@@ -77,7 +77,7 @@ module _ (g : Gas) (p : Step) (l : Limits document01 g) where
   pub atoms-are : wrongAtoms document01 g p ≡ wrongCount (g .carbon) (p .carbon) || wrongCount (g .hydrogen) (p .hydrogen)
   unfolding beyond
   atoms-are =
-      rw (not-outside (pos 1) (pos 100000) (pos (g .air)) (omega (arith, l .air-some)) (omega (arith, l .air-most)))
+      rw (not-outside (pos 1) (pos (document01 .mostAir)) (pos (g .air)) (omega (arith, l .air-some)) (omega (arith, l .air-most)))
       (or-shuffle (ltZ (p .carbon) (pos 0)) (ltZ (p .hydrogen) (pos 0)) _ _)
 
   pub wrong-carbon : wrongCount (g .carbon) (p .carbon) ≡ true → wrongAtoms document01 g p ≡ true

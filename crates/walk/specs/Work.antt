@@ -54,7 +54,7 @@ stepNo l i = record { carbon = getD l (stepNumbers * i) (pos 0); hydrogen = getD
 -- ---- what a step asks
 -- a count of atoms with more added is wrong where atoms are taken away, or leave their limit
 abbrev pub wrongCount : ℕ → ℤ → Bool
-wrongCount have more = ltZ more (pos 0) || outside (pos 0) (pos 50000) (pos have +ℤ more)
+wrongCount have more = ltZ more (pos 0) || outside (pos 0) (pos (document01 .mostAtoms)) (pos have +ℤ more)
 
 abbrev pub paperAtoms : Atoms → Told ℕ
 paperAtoms (Are n) = gives n

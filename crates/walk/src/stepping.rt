@@ -61,19 +61,21 @@ pub(crate) enum Grown {
     Beyond,
 }
 
+// the most atoms, as a count
+const MOST_ATOMS: u64 = gas::MOST_ATOMS as u64;
 // calorific value or q outside range
 const HEAT: u32 = 7;
 
 // A count of atoms with more added.
 fn add(have: u64, more: i64) -> Atoms
-    requires { ⌜ have ≤ 50000 ⌝ }
+    requires { ⌜ have ≤ document01 .mostAtoms ⌝ }
     ensures { λ r. ⌜ paperAtoms r ≡ first (4 when wrongCount have more ∷ []) (have + up more) ⌝ }
 {
-    if !signed::inside(more, 0, 50000) {
+    if !signed::inside(more, 0, gas::MOST_ATOMS) {
         return Atoms::TooMany;
     }
     let sum = have + signed::to_u64(more);
-    if sum > 50000 {
+    if sum > MOST_ATOMS {
         return Atoms::TooMany;
     }
     Atoms::Are(sum)

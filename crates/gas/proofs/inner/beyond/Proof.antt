@@ -5,20 +5,20 @@ use lib.IntN.{pos}
 use mir.Syntax.{w64}
 use mir.Val.{SFits}
 use Rattle.signed.specs.Zed.{outside, in-plain, tested}
-use Rattle.gas.specs.Burning.{beyond}
+use Rattle.gas.specs.Burning.{beyond, document01}
 use Rattle.gas.proofs.inner.beyond.Statement.{statement}
 use Rattle.gas.proofs.inner.beyond.Tie as tie
 
 -- the three tests, each of the number itself
-air-out : (c : tie.After-inside) {t : Bool} → not (c .inside .result) ≡ t → outside (pos 1) (pos 100000) (c .before .before .args .charge .air) ≡ t
+air-out : (c : tie.After-inside) {t : Bool} → not (c .inside .result) ≡ t → outside (pos 1) (pos (document01 .mostAir)) (c .before .before .args .charge .air) ≡ t
 air-out c h =
     let f : SFits w64 (c .before .before .args .charge .air) = search needs in
-    tested 1 100000 f (in-plain _ _ f (c .inside .ensures)) h
+    tested 1 (document01 .mostAir) f (in-plain _ _ f (c .inside .ensures)) h
 
-carbon-out : (c : tie.After-inside2) {t : Bool} → not (c .inside2 .result) ≡ t → outside (pos 0) (pos 50000) (c .before .before .before .before .before .args .charge .carbon) ≡ t
+carbon-out : (c : tie.After-inside2) {t : Bool} → not (c .inside2 .result) ≡ t → outside (pos 0) (pos (document01 .mostAtoms)) (c .before .before .before .before .before .args .charge .carbon) ≡ t
 carbon-out c h =
     let f : SFits w64 (c .before .before .before .before .before .args .charge .carbon) = search needs in
-    tested 0 50000 f (in-plain _ _ f (c .inside2 .ensures)) h
+    tested 0 (document01 .mostAtoms) f (in-plain _ _ f (c .inside2 .ensures)) h
 
 inside-requires : tie.Need-inside-requires
 inside-requires c κs = search needs

@@ -4,6 +4,7 @@ use mathlib.Core.Path.{_≡_, refl, sym, _∙_}
 use native.Mathlib.Omega.{arith}
 use lib.IntN.{pos}
 use Rattle.signed.specs.Zed.{dn, apart, in-range, in-plain, tested, tested-plain, tested-nat, zed}
+use Rattle.gas.specs.Burning.{document01}
 use Rattle.walk.proofs.Asking.{count-outside, count-over, count-right}
 use Rattle.walk.proofs.stepping.add.Statement.{statement}
 use Rattle.walk.proofs.stepping.add.Tie as tie
@@ -12,25 +13,25 @@ use Rattle.walk.proofs.stepping.add.Tie as tie
 above : (c : tie.Else1) → dn (c .before .before .args .more) ≡ 0
 above c =
     let s = c .before .before in
-    omega (zed, apart (s .args .more), in-range (pos 0) (pos 50000) (s .args .more) (sym (in-plain _ _ (s .fits .more) (c .before .inside .ensures)) ∙ not-false _ (c .if1 .left)) .least)
+    omega (zed, apart (s .args .more), in-range (pos 0) (pos (document01 .mostAtoms)) (s .args .more) (sym (in-plain _ _ (s .fits .more) (c .before .inside .ensures)) ∙ not-false _ (c .if1 .left)) .least)
 
 inside-requires : tie.Need-inside-requires
 inside-requires c κs = search needs
 
 returns : tie.Need-returns
-returns c = rw (count-outside _ _ (c .before .before .pre) (tested 0 50000 (c .before .before .fits .more) (in-plain _ _ (c .before .before .fits .more) (c .before .inside .ensures)) (c .if1 .taken))) refl
+returns c = rw (count-outside _ _ (c .before .before .pre) (tested 0 (document01 .mostAtoms) (c .before .before .fits .more) (in-plain _ _ (c .before .before .fits .more) (c .before .inside .ensures)) (c .if1 .taken))) refl
 
 to-u64-requires : tie.Need-to-u64-requires
-to-u64-requires c κs = tested-plain 0 50000 (c .before .before .fits .more) (in-plain _ _ (c .before .before .fits .more) (c .before .inside .ensures)) (c .if1 .left)
+to-u64-requires c κs = tested-plain 0 (document01 .mostAtoms) (c .before .before .fits .more) (in-plain _ _ (c .before .before .fits .more) (c .before .inside .ensures)) (c .if1 .left)
 
 add-sum : tie.Need-add-sum
-add-sum c = let n = tested-nat 0 50000 (c .before .before .before .fits .more) (in-plain _ _ (c .before .before .before .fits .more) (c .before .before .inside .ensures)) (c .before .if1 .left) (c .to-u64 .ensures) in omega arith
+add-sum c = let n = tested-nat 0 (document01 .mostAtoms) (c .before .before .before .fits .more) (in-plain _ _ (c .before .before .before .fits .more) (c .before .before .inside .ensures)) (c .before .if1 .left) (c .to-u64 .ensures) in omega arith
 
 returns-2 : tie.Need-returns-2
-returns-2 c = let n = tested-nat 0 50000 (c .before .before .before .before .fits .more) (in-plain _ _ (c .before .before .before .before .fits .more) (c .before .before .before .inside .ensures)) (c .before .before .if1 .left) (c .before .to-u64 .ensures) in let s = c .before .before .before .before in rw (count-over (s .args .have) (s .args .more) (above (c .before .before)) (omega (arith, n .number))) refl
+returns-2 c = let n = tested-nat 0 (document01 .mostAtoms) (c .before .before .before .before .fits .more) (in-plain _ _ (c .before .before .before .before .fits .more) (c .before .before .before .inside .ensures)) (c .before .before .if1 .left) (c .before .to-u64 .ensures) in let s = c .before .before .before .before in rw (count-over (s .args .have) (s .args .more) (above (c .before .before)) (omega (arith, n .number))) refl
 
 returns-3 : tie.Need-returns-3
-returns-3 c = let n = tested-nat 0 50000 (c .before .before .before .before .fits .more) (in-plain _ _ (c .before .before .before .before .fits .more) (c .before .before .before .inside .ensures)) (c .before .before .if1 .left) (c .before .to-u64 .ensures) in let s = c .before .before .before .before in rw (count-right (s .args .have) (s .args .more) (above (c .before .before)) (omega (arith, n .number)), n .number) refl
+returns-3 c = let n = tested-nat 0 (document01 .mostAtoms) (c .before .before .before .before .fits .more) (in-plain _ _ (c .before .before .before .before .fits .more) (c .before .before .before .inside .ensures)) (c .before .before .if1 .left) (c .before .to-u64 .ensures) in let s = c .before .before .before .before in rw (count-right (s .args .have) (s .args .more) (above (c .before .before)) (omega (arith, n .number)), n .number) refl
 
 pub add-spec : {M : Type 1} → statement M
 add-spec = tie.close (tie.spec inside-requires returns to-u64-requires add-sum returns-2 returns-3)
