@@ -77,7 +77,7 @@ impl Run {
         Ok(())
     }
 
-    /// What the run has to write. Its words are one of the three forms, and its question is well formed.
+    /// What the run has to write. Its words are one of the three forms.
     pub fn written(&self) -> Written {
         let words: Vec<&str> = self.words.iter().map(String::as_str).collect();
         let (form, sheet) = match words[..] {
@@ -143,14 +143,34 @@ fn ask(requests: &str, sheet: Given) -> Written {
     Written { output, error: sheet.said }
 }
 
-/// The printed walk of a question: A, c, h, mK in the first line, a step in each further one.
+/// The numbers of a question's lines, or what standard error says of the first that is not four numbers.
+fn question_lines(question: &str) -> Result<Vec<[i64; 4]>, String> {
+    let mut rows = Vec::new();
+    for (i, line) in lines_of(question).chain(question.is_empty().then_some("")).enumerate() {
+        if line.contains('\r') {
+            let said = "a carriage return; lines end in a line feed alone";
+            return Err(format!("line {}: {said}\n", i + 1));
+        }
+        let four = numbers(&line.split('\t').collect::<Vec<&str>>());
+        let four = four.and_then(|numbers| numbers.try_into().ok());
+        let names = if i == 0 { "A, c, h, mK" } else { "c, h, calorific value, q" };
+        let said = format!("expected four whole numbers parted by tabs: {names}");
+        rows.push(four.ok_or(format!("line {}: {said}\n", i + 1))?);
+    }
+    Ok(rows)
+}
+
+/// The printed walk of a question: A, c, h, mK in the first line, a step in each further one. Nothing is printed where
+/// a line is not four numbers.
 fn walk_page(question: &str, sheet: Given) -> Written {
-    let lines = lines_of(question).map(|line| line.split('\t').collect::<Vec<&str>>());
-    let rows: Vec<Vec<i64>> = lines.map(|line| numbers(&line).expect("four numbers")).collect();
-    let [air, carbon, hydrogen, mk] = rows[0][..] else { panic!("A, c, h, mK") };
+    let rows = match question_lines(question) {
+        Ok(rows) => rows,
+        Err(said) => return Written { output: String::new(), error: sheet.said + &said },
+    };
+    let [air, carbon, hydrogen, mk] = rows[0];
     let start = State { charge: Charge { air, carbon, hydrogen }, mk };
     let steps = rows[1..].concat();
-    let n = steps.len() / 4;
+    let n = rows.len() - 1;
     let (mut temperatures, mut rests, mut looks) = (vec![0; n], vec![0; n], vec![0; PLACES * n]);
     let lent = Lent { temperatures: &mut temperatures, rests: &mut rests, looks: &mut looks };
     let outcome = match sheet.list {

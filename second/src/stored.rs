@@ -8,15 +8,17 @@ use crate::program::{Run, Written};
 use crate::trials::ask;
 
 /// The forms whose output is made; what the others write is in docs/PROGRAM.md and docs/FAILURES.md.
-const FORMS: [&str; 9] = [
+const FORMS: [&str; 11] = [
     "ask",
     "ask-refused",
     "ask-return",
     "sheet",
     "sheet-refused",
     "walk",
+    "walk-bad",
     "walk-file",
     "walk-refused",
+    "walk-return",
     "walk-start",
 ];
 

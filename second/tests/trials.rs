@@ -75,7 +75,16 @@ fn a_seed_meets_every_refusal_of_the_program() {
     for words in ["no such request", "takes other fields", "not a number", "return", "too long"] {
         assert!(lines().any(|line| line.starts_with("error") && line.contains(words)), "{words}");
     }
-    for said in ["the sheet is", "the start is", "step 1 is", "step 2 is", "a carriage return"] {
+    for said in [
+        "the sheet is",
+        "the start is",
+        "step 1 is",
+        "step 2 is",
+        "has a carriage",
+        ": a carriage",
+        "A, c",
+        "value, q",
+    ] {
         assert!(written().any(|written| written.error.contains(said)), "{said}");
     }
 }

@@ -6,6 +6,14 @@ pub mod charges;
 pub mod lent;
 pub mod sheets;
 
+use second::dice::Dice;
+
+/// The dice of a test, by its number and the seed that the environment variable SEED has, or 1.
+pub fn dice(number: u64) -> Dice {
+    let seed = std::env::var("SEED").map_or(1, |seed| seed.parse().expect("SEED is a number"));
+    Dice::new(seed << 16 | number)
+}
+
 /// A refusal as both sides have it: its number, and its row if it has one.
 pub type Refused = (u32, Option<u32>);
 

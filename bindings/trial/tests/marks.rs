@@ -4,11 +4,11 @@ use gaskeys::{Millikelvin, State};
 use second::dice::Dice;
 use second::marking::{self, Typed};
 use trial::charges::{about, charge, temperature, wrapped};
-use trial::{first, other, sheets};
+use trial::{dice, first, other, sheets};
 
 #[test]
 fn stations_are_alike() {
-    let mut dice = Dice::new(931);
+    let mut dice = dice(931);
     let good = sheets::accepted(&mut dice);
     for _ in 0..20_000 {
         let sheet = sheets::drawn(&mut dice, &good);
@@ -39,7 +39,7 @@ fn number(dice: &mut Dice, scale: f64, key: i64, window: i64) -> f64 {
 
 #[test]
 fn marks_are_alike() {
-    let mut dice = Dice::new(932);
+    let mut dice = dice(932);
     let (mut counted, mut missed) = (0, 0);
     for _ in 0..300_000 {
         let most = dice.one_of(&[10, 2_000_000, 1_000_000_000_000]);

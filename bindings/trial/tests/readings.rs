@@ -1,13 +1,12 @@
 //! air_heat, air_psi, air_cp, burn, gas_heat, content, specific_content and the built-in sheet.
 
 use gaskeys::{raw, Millikelvin, State};
-use second::dice::Dice;
 use second::gas::{self, Charge, Products};
 use second::sheet::{self, PLACES};
 use second::{air, refusal};
 use trial::charges::{about, charge, temperature, wild, wrapped};
 use trial::lent::Lent;
-use trial::{first, other, sheets, Refused};
+use trial::{dice, first, other, sheets, Refused};
 
 /// A reading as both sides have it.
 fn read(answer: Result<i64, refusal::Refusal>) -> Result<u64, Refused> {
@@ -21,7 +20,7 @@ fn same_readings(mk: i64) {
 
 #[test]
 fn air_is_read_alike() {
-    let mut dice = Dice::new(941);
+    let mut dice = dice(941);
     for kelvin in 199..=2_001 {
         for mk in [-1, 0, 1, 499, 500, 999] {
             same_readings(1_000 * kelvin + mk);
@@ -44,7 +43,7 @@ fn same_products(charge: Charge) {
 
 #[test]
 fn charges_burn_alike() {
-    let mut dice = Dice::new(942);
+    let mut dice = dice(942);
     for air in [0, 1, 100_000, 100_001] {
         for carbon in [-1, 0, 50_000, 50_001] {
             for hydrogen in [-1, 0, 50_000, 50_001] {
@@ -62,7 +61,7 @@ fn charges_burn_alike() {
 
 #[test]
 fn heats_are_alike() {
-    let mut dice = Dice::new(943);
+    let mut dice = dice(943);
     let good = sheets::accepted(&mut dice);
     let (mut told, mut refused) = (0, 0);
     for _ in 0..30_000 {

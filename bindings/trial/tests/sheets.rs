@@ -4,7 +4,7 @@ use second::dice::Dice;
 use second::sheet::{self, PLACES};
 use second::trials::sheets::{damage, each_list, each_text};
 use trial::lent::Lent;
-use trial::{first, other, sheets};
+use trial::{dice, first, other, sheets};
 
 /// Lengths of lent lists at and beside those that matter.
 const LENGTHS: [usize; 10] =
@@ -35,7 +35,7 @@ fn damaged(dice: &mut Dice, text: &[u8]) -> Vec<u8> {
 
 #[test]
 fn texts_are_read_alike() {
-    let mut dice = Dice::new(901);
+    let mut dice = dice(901);
     for list in sheets::accepted(&mut dice) {
         let text = sheet::text(&list).into_bytes();
         for length in LENGTHS {
@@ -55,7 +55,7 @@ fn texts_are_read_alike() {
 #[test]
 fn damaged_texts_are_read_alike() {
     let (mut good, mut bad) = (0, 0);
-    each_text(&mut Dice::new(904), &mut |text| {
+    each_text(&mut dice(904), &mut |text| {
         same_reading(text, PLACES);
         *(if sheet::first_bad_row(text).is_none() { &mut good } else { &mut bad }) += 1;
     });
@@ -64,7 +64,7 @@ fn damaged_texts_are_read_alike() {
 
 #[test]
 fn a_reader_judges_the_form_alone() {
-    let mut dice = Dice::new(902);
+    let mut dice = dice(902);
     for _ in 0..200 {
         let list: Vec<u32> = (0..PLACES).map(|_| dice.below(200_002) as u32).collect();
         same_reading(sheet::text(&list).as_bytes(), PLACES);
@@ -79,7 +79,7 @@ fn same_verdict(list: &[u32]) -> bool {
 
 #[test]
 fn lists_are_judged_alike() {
-    let mut dice = Dice::new(903);
+    let mut dice = dice(903);
     let good = sheets::accepted(&mut dice);
     for _ in 0..5_000 {
         let mut list = sheets::drawn(&mut dice, &good);
@@ -94,7 +94,7 @@ fn lists_are_judged_alike() {
 #[test]
 fn the_step_rule_is_kept_alike_in_every_row() {
     let (mut good, mut bad) = (0, 0);
-    each_list(&mut Dice::new(905), &mut |list| {
+    each_list(&mut dice(905), &mut |list| {
         *(if same_verdict(list) { &mut good } else { &mut bad }) += 1;
     });
     assert!(good > 1_800 && bad > 1_800 && good + bad > 4_600, "{good} {bad}");

@@ -7,7 +7,7 @@ use second::gas::{self, Charge, Gases};
 use second::inverse::PLACES;
 use trial::charges::{about, charge, temperature, wild, wrapped};
 use trial::lent::{length, Lent};
-use trial::{first, other, sheets};
+use trial::{dice, first, other, sheets};
 
 /// A target near the heat at some temperature, at or beside an end, or any at all.
 fn target(dice: &mut Dice, charge: &Charge, sheet: &[u32]) -> i64 {
@@ -23,7 +23,7 @@ fn target(dice: &mut Dice, charge: &Charge, sheet: &[u32]) -> i64 {
 
 #[test]
 fn temperatures_of_heats_are_alike() {
-    let mut dice = Dice::new(911);
+    let mut dice = dice(911);
     let good = sheets::accepted(&mut dice);
     for _ in 0..60_000 {
         let sheet = sheets::drawn(&mut dice, &good);
@@ -42,7 +42,7 @@ fn temperatures_of_heats_are_alike() {
 
 #[test]
 fn temperatures_of_psi_are_alike() {
-    let mut dice = Dice::new(912);
+    let mut dice = dice(912);
     for _ in 0..200_000 {
         let target = about(&mut dice, 95_264_000, 133_151_000);
         let places = length(&mut dice, PLACES);

@@ -7,7 +7,7 @@ use second::inverse::PLACES;
 use second::walk::{self, Outcome, State};
 use trial::charges::{about, charge, temperature, wild, wrapped};
 use trial::lent::{length, Lent};
-use trial::{sheets, Refused};
+use trial::{dice, sheets, Refused};
 
 const MOST: i128 = 1_000_000_000_000_000_000;
 
@@ -116,7 +116,7 @@ fn good_steps(dice: &mut Dice, sheet: &[u32], start: State, count: usize) -> Vec
 
 #[test]
 fn walks_are_alike() {
-    let mut dice = Dice::new(921);
+    let mut dice = dice(921);
     let good = sheets::accepted(&mut dice);
     let (mut done, mut stopped, mut refused) = (0, 0, 0);
     for _ in 0..20_000 {
@@ -139,7 +139,7 @@ fn walks_are_alike() {
 
 #[test]
 fn long_walks_are_alike() {
-    let mut dice = Dice::new(922);
+    let mut dice = dice(922);
     let good = sheets::accepted(&mut dice);
     for count in [16, 63, 64, 65, 70].into_iter().cycle().take(300) {
         let sheet = dice.one_of(&good);

@@ -1,4 +1,4 @@
-//! Lines that are no request, or hardly one, and typed numbers at both sides of what is one.
+//! Lines that are no request, or hardly one, and typed numbers at both sides of what is one; questions of which a line is spoilt.
 
 use crate::answer::LONGEST;
 use crate::dice::Dice;
@@ -54,6 +54,19 @@ pub fn requests(dice: &mut Dice) -> Vec<String> {
         requests.push(spoilt(dice, &line));
     }
     requests
+}
+
+/// A question with one line spoilt, or with none, an empty one or an unended one.
+pub fn question(dice: &mut Dice, good: &str) -> String {
+    let mut lines: Vec<String> = good.lines().map(str::to_string).collect();
+    let line = dice.below(lines.len() as u64) as usize;
+    match dice.below(10) {
+        0 => return dice.one_of(&["", "\n", "\r\n", "1\t0\t0\t200000"]).to_string(),
+        1 => lines[line] = String::new(),
+        2 => lines[line] = "0".repeat(LONGEST + 1),
+        _ => lines[line] = spoilt(dice, &lines[line]),
+    }
+    lines.join("\n") + dice.one_of(&["", "\n"])
 }
 
 /// The longest line and a longer one: a walk of many numbers, and a word.

@@ -79,13 +79,15 @@ fn any_text(dice: &mut Dice, bases: &[Base]) -> Vec<u8> {
     sheet::text(&list).into_bytes()
 }
 
-/// Questions from standard input and from a file, over the built-in sheet, another and a refused one.
+/// Questions from standard input, each spoilt and as it is, and from a file, over the built-in sheet, another and a refused one.
 fn printed_walks(dice: &mut Dice) -> Vec<Run> {
     let bases = bases();
     let (built_in, other) = (sheet::built_in(), random(dice));
     let mut runs = Vec::new();
     for walk in walks::walks(dice, &built_in, 100) {
-        runs.push(Run::new(&["walk"], walk.question()));
+        let question = walk.question();
+        runs.push(Run::new(&["walk"], misfits::question(dice, &question)));
+        runs.push(Run::new(&["walk"], question));
     }
     for walk in walks::walks(dice, &other, 50) {
         let text = dice.one_of(&[&other, &other, &built_in]);

@@ -117,14 +117,14 @@ pub fn damage(dice: &mut Dice, list: &mut [u32]) {
     list[place] = dice.one_of(&[&edges[..], &[near]].concat());
 }
 
-/// Texts at both sides of each limit of a sheet file: its numbers, its step rule, its 1,801 rows.
+/// Texts at both sides of each limit of a sheet file: its numbers, its step rule, its 1,801 rows, and more than a program reads.
 pub fn limit_texts() -> Vec<Vec<u8>> {
     let lists = edited(&LIMITS);
     let mut texts: Vec<Vec<u8>> = lists.iter().map(|list| sheet::text(list).into_bytes()).collect();
     let zeros = &bases()[1];
     let (last, end) = (zeros.rows[ROWS - 1], zeros.text.len());
     texts.extend([Vec::new(), zeros.cut(last), zeros.cut(end - 1), zeros.cut(end)]);
-    texts.push(zeros.edit(end, 0, b"\n"));
+    texts.extend([zeros.edit(end, 0, b"\n"), zeros.edit(end, 0, &[b'0'; 60_000])]);
     texts
 }
 
