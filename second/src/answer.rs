@@ -88,7 +88,7 @@ fn number_answer(word: &str, numbers: &[i64], sheet: Sheet) -> Option<String> {
 }
 
 /// `ok` and the numbers, or the refusal.
-pub fn say(answer: Result<Vec<i128>, Refusal>) -> String {
+fn say(answer: Result<Vec<i128>, Refusal>) -> String {
     match answer {
         Ok(numbers) => fields("ok", &numbers),
         Err(refusal) => say_refused(&refusal),
@@ -113,12 +113,12 @@ pub fn numbers(fields: &[&str]) -> Option<Vec<i64>> {
     fields.iter().map(number).collect()
 }
 
-pub fn charge(a: &i64, c: &i64, h: &i64) -> Charge {
+fn charge(a: &i64, c: &i64, h: &i64) -> Charge {
     Charge { air: *a, carbon: *c, hydrogen: *h }
 }
 
 /// An inverse: mK, rest, number of looks, the looks.
-pub fn found(found: Found) -> Vec<i128> {
+fn found(found: Found) -> Vec<i128> {
     let head = [found.mk.into(), found.rest, found.looks.len() as i128];
     head.into_iter().chain(found.looks.iter().map(|look| i128::from(*look))).collect()
 }
@@ -149,7 +149,7 @@ fn walk_answer(start: State, list: &[u32], steps: &[i64]) -> String {
 }
 
 /// Done: number of steps, A, c, h, mK. Stopped: steps done, number, A, c, h, mK.
-pub fn say_outcome(outcome: &Outcome) -> String {
+fn say_outcome(outcome: &Outcome) -> String {
     let state = |of: &State| {
         let Charge { air, carbon, hydrogen } = of.charge;
         [air, carbon, hydrogen, of.mk].map(i128::from)
@@ -184,7 +184,7 @@ fn mark_answer(fields: &[&str]) -> Option<String> {
 }
 
 /// A typed number: `x` and the 16 hexadecimal digits of its bits, or a decimal number.
-pub fn float(text: &str) -> Option<f64> {
+fn float(text: &str) -> Option<f64> {
     match text.strip_prefix('x') {
         Some(bits) => {
             let whole = bits.len() == 16 && bits.bytes().all(|b| b.is_ascii_hexdigit());

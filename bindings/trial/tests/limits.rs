@@ -9,16 +9,16 @@ use trial::lent::Lent;
 
 const AIR: Charge = Charge { air: 1, carbon: 0, hydrogen: 0 };
 
-/// The places of a lent list before a call, with the looks of one search in its first eleven.
-fn looks(length: usize, found: &[u32]) -> Lent<u32> {
+/// The places of one search that ends at 200,500 mK.
+const FOUND: [u32; PLACES] = [1100, 650, 425, 312, 256, 228, 214, 207, 203, 201, 0];
+
+/// A lent list with so many such searches laid into it.
+fn looks(length: usize, searches: usize) -> Lent<u32> {
     let mut lent = Lent::of(length);
-    let places = found.iter().copied().chain(std::iter::repeat(0)).take(PLACES);
+    let places = FOUND.into_iter().cycle().take(PLACES * searches);
     lent.part().iter_mut().zip(places).for_each(|(place, look)| *place = look);
     lent
 }
-
-/// The kelvins that the halving looks at from 200,500 mK.
-const FOUND: [u32; 10] = [1100, 650, 425, 312, 256, 228, 214, 207, 203, 201];
 
 #[test]
 fn an_inverse_takes_eleven_places() {
@@ -34,8 +34,7 @@ fn an_inverse_takes_eleven_places() {
             let short = length < PLACES;
             let right = if short { Err(10) } else { Ok((200_500, 1)) };
             assert_eq!(answer.map_err(|refusal| refusal.number()), right, "{length}");
-            let after = if short { Lent::of(length) } else { looks(length, &FOUND) };
-            assert_eq!(lent, after, "{length}");
+            assert_eq!(lent, looks(length, if short { 0 } else { 1 }), "{length}");
         }
     }
 }
@@ -54,7 +53,8 @@ fn a_refused_target_leaves_every_place() {
     }
 }
 
-/// 64 steps that add nothing, or as many numbers as are asked for, with lists of these lengths: whether the walk is done, and the places after it.
+/// A walk of so many zeros with lists of these lengths: the steps done or the refusal, and the
+/// places after it.
 fn still(numbers: usize, lengths: [usize; 3]) -> (Result<u32, u32>, [Lent<i64>; 2], Lent<u32>) {
     let sheet = gaskeys::built_in_sheet();
     let start = State { charge: wrapped(AIR), temperature: Millikelvin(200_500) };
@@ -87,14 +87,13 @@ fn a_walk_takes_its_places() {
         (0, [0, 0, 0], Ok(0)),
         (0, [1, 1, 11], Ok(0)),
     ] {
-        let (done, of_steps, looks) = still(numbers, lengths);
+        let (done, of_steps, of_looks) = still(numbers, lengths);
         assert_eq!(done, right, "{numbers} {lengths:?}");
         let steps = done.unwrap_or(0) as usize;
-        let mut before = (Lent::of(lengths[0]), Lent::of(lengths[1]), Lent::of(lengths[2]));
-        before.0.part()[..steps].fill(200_500);
-        before.1.part()[..steps].fill(0);
-        let places = FOUND.iter().copied().chain([0]).cycle().take(PLACES * steps);
-        before.2.part().iter_mut().zip(places).for_each(|(place, look)| *place = look);
-        assert_eq!((of_steps, looks), ([before.0, before.1], before.2), "{numbers} {lengths:?}");
+        let (mut temperatures, mut rests) = (Lent::of(lengths[0]), Lent::of(lengths[1]));
+        temperatures.part()[..steps].fill(200_500);
+        rests.part()[..steps].fill(0);
+        let after = ([temperatures, rests], looks(lengths[2], steps));
+        assert_eq!((of_steps, of_looks), after, "{numbers} {lengths:?}");
     }
 }

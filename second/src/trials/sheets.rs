@@ -129,7 +129,7 @@ pub fn limit_texts() -> Vec<Vec<u8>> {
 }
 
 /// Lists at both sides of the same limits, and of the length of a list.
-pub fn limit_lists() -> Vec<Vec<u32>> {
+fn limit_lists() -> Vec<Vec<u32>> {
     let zeros = [PLACES - 1, PLACES, PLACES + 1].map(|length| vec![0; length]);
     [edited(&LIMITS), zeros.to_vec()].concat()
 }
