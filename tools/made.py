@@ -4,9 +4,9 @@ import sys
 from scan import ROOT
 
 
-def constant(name, kind, numbers):
-    """A constant array of the crate's source, one number a line."""
-    lines = [f'const {name}: [{kind}; {len(numbers)}] = [', *(f'    {number},' for number in numbers), '];']
+def constant(name, kind, length, numbers):
+    """A constant array of the crate's source under the name of its length, one number a line."""
+    lines = [f'const {name}: [{kind}; {length}] = [', *(f'    {number},' for number in numbers), '];']
     return '\n'.join(lines) + '\n'
 
 

@@ -11,10 +11,11 @@ use lib.IntN.{ℤ, pos, _+ℤ_}
 use lib.ListN.{length, drop, replicate}
 use lib.Signed.{_≤ℤ_, _<ℤ_}
 use Rattle.signed.specs.Zed.{up, apart, plain, zed}
+use Rattle.rows.specs.Limits.{firstKelvin, lastKelvin}
 use Rattle.rows.specs.Rows.{rowsPsi}
 use Rattle.rows.specs.Table.{column, airPsi}
 use Rattle.rows.specs.TableLaws.{psi-grows}
-use Rattle.air.specs.Limits.{lookPlaces}
+use Rattle.air.specs.Limits.{lookPlaces, coldest, hottest}
 use Rattle.air.specs.declared.PsiAnswer.{PsiAnswer}
 use Rattle.air.specs.declared.PsiAnswer.the-variants.{At}
 use Rattle.air.specs.Readings.{airPsiAt}
@@ -33,16 +34,16 @@ pub psi-figure : (k : ℕ) {rows : List ℕ} {r : ℕ} → rows ≡ rowsPsi → 
 unfolding airPsi
 psi-figure k e h = h ∙ ap (λ (l : List ℕ). column l k) e
 
-pub psi-whole : (k : ℕ) → k ≤ 2000 → airPsiAt (1000 * k) ≡ 1000 * airPsi k
+pub psi-whole : (k : ℕ) → k ≤ lastKelvin → airPsiAt (1000 * k) ≡ 1000 * airPsi k
 unfolding airPsiAt
 psi-whole k u = between-whole airPsi k u
 
 -- the test of a look
-pub psi-fits : {target k r : ℕ} → k ≤ 2000 → r ≡ airPsi k → 1000 * r ≤ target → psiFits target k ≡ true
+pub psi-fits : {target k r : ℕ} → k ≤ lastKelvin → r ≡ airPsi k → 1000 * r ≤ target → psiFits target k ≡ true
 unfolding psiFits
 psi-fits {target} {k} u e h = le-leb (airPsiAt (1000 * k)) target (omega (arith, psi-whole k u))
 
-pub psi-misses : {target k r : ℕ} → k ≤ 2000 → r ≡ airPsi k → target < 1000 * r → psiFits target k ≡ false
+pub psi-misses : {target k r : ℕ} → k ≤ lastKelvin → r ≡ airPsi k → target < 1000 * r → psiFits target k ≡ false
 unfolding psiFits
 psi-misses {target} {k} u e h = lt-leb (airPsiAt (1000 * k)) target (omega (arith, psi-whole k u))
 
@@ -74,33 +75,33 @@ module _ {target row a b : ℕ} (h : PsiRow target row a b) where
 
 -- a target that the table reaches: the last value, or one that is searched
 module _ (target : ℕ) where
-  pub last-searched : (before after : List ℕ) → target ≡ 1000 * airPsi 2000 → after ≡ replicate lookPlaces 0 ++ drop lookPlaces before
-      → PsiSearched target before (At (record { 0 = pos 2000000 }) 0) after
+  pub last-searched : (before after : List ℕ) → target ≡ 1000 * airPsi lastKelvin → after ≡ replicate lookPlaces 0 ++ drop lookPlaces before
+      → PsiSearched target before (At (record { 0 = pos hottest }) 0) after
   unfolding psiFound eleven
   last-searched before after e h =
-      let t : pos target ≡ psiValue 2000000 = ap pos (omega (arith, psi-whole 2000 (omega arith))) in
+      let t : pos target ≡ psiValue hottest = ap pos (omega (arith, psi-whole lastKelvin (omega arith))) in
       record {
         answer = rw (top-temperature psiValue (pos target) t, top-rest psiValue (pos target) t) refl;
         list = h ∙ ap (λ (l : List ℕ). eleven l ++ drop lookPlaces before) (sym (no-looks psiValue (pos target) t));
       }
 
-  module _ (low : 1000 * airPsi 200 ≤ target) (high : target < 1000 * airPsi 2000) where
-    below-last : pos target <ℤ psiValue 2000000
-    below-last = record { lt = lt→ltb target (airPsiAt 2000000) (omega (arith, psi-whole 2000 (omega arith))) }
+  module _ (low : 1000 * airPsi firstKelvin ≤ target) (high : target < 1000 * airPsi lastKelvin) where
+    below-last : pos target <ℤ psiValue hottest
+    below-last = record { lt = lt→ltb target (airPsiAt hottest) (omega (arith, psi-whole lastKelvin (omega arith))) }
 
-    from-first : psiValue 200000 ≤ℤ pos target
-    from-first = record { le = le→leb (airPsiAt 200000) target (omega (arith, psi-whole 200 (omega arith))) }
+    from-first : psiValue coldest ≤ℤ pos target
+    from-first = record { le = le→leb (airPsiAt coldest) target (omega (arith, psi-whole firstKelvin (omega arith))) }
 
-    kept-row : Kept (psiFits target) 200 2000 (halving (psiFits target) 200 2000)
+    kept-row : Kept (psiFits target) firstKelvin lastKelvin (halving (psiFits target) firstKelvin lastKelvin)
     unfolding psiFits
     kept-row = row-kept psiValue (pos target) from-first below-last
 
     -- the row that was kept, with the figures read there and at the next kelvin
-    pub row-found : (row a b : ℕ) → row ≡ halving (psiFits target) 200 2000 .row → a ≡ airPsi row → b ≡ airPsi (row + 1) → PsiRow target row a b
+    pub row-found : (row a b : ℕ) → row ≡ halving (psiFits target) firstKelvin lastKelvin .row → a ≡ airPsi row → b ≡ airPsi (row + 1) → PsiRow target row a b
     unfolding psiFits
     row-found row a b e p q =
-        let l : 200 ≤ row = omega (arith, kept-row .least) in
-        let u : row < 2000 = omega (arith, kept-row .most) in
+        let l : firstKelvin ≤ row = omega (arith, kept-row .least) in
+        let u : row < lastKelvin = omega (arith, kept-row .most) in
         let y : psiFits target row ≡ true = ap (psiFits target) e ∙ kept-row .passes in
         let n : psiFits target (row + 1) ≡ false = ap (λ (k : ℕ). psiFits target (k + 1)) e ∙ kept-row .fails in
         record {
@@ -112,7 +113,7 @@ module _ (target : ℕ) where
           fails = omega (arith, leb-false (airPsiAt (1000 * (row + 1))) target n, psi-whole (row + 1) (omega arith));
         }
 
-    pub searched : {places before after : List ℕ} {row : ℕ} {r : PsiAnswer} → Halved (psiFits target) 200 2000 0 (replicate lookPlaces 0) row places
+    pub searched : {places before after : List ℕ} {row : ℕ} {r : PsiAnswer} → Halved (psiFits target) firstKelvin lastKelvin 0 (replicate lookPlaces 0) row places
         → after ≡ places ++ drop lookPlaces before → r ≡ psiFound target → PsiSearched target before r after
     unfolding psiFits
     searched {before} h l e = record {
@@ -122,7 +123,7 @@ module _ (target : ℕ) where
 
 -- ---- the answer of the call
 -- an end of the table, as read
-pub psi-end : (k : ℕ) → k ≤ 2000 → {rows : List ℕ} {r : ℕ} {z : ℤ} → rows ≡ rowsPsi → r ≡ column rows k → z ≡ pos (1000 * r) → z ≡ psiValue (1000 * k)
+pub psi-end : (k : ℕ) → k ≤ lastKelvin → {rows : List ℕ} {r : ℕ} {z : ℤ} → rows ≡ rowsPsi → r ≡ column rows k → z ≡ pos (1000 * r) → z ≡ psiValue (1000 * k)
 psi-end k u e h q = q ∙ ap pos (ap (λ (n : ℕ). 1000 * n) (psi-figure k e h) ∙ sym (psi-whole k u))
 
 -- a refusal leaves the lent list
@@ -133,7 +134,7 @@ psi-refused target before r f e =
 
 -- a target that is reached is answered by the search
 pub psi-answered : (target : ℤ) (before : List ℕ) {n : ℕ} {r : PsiAnswer} {after : List ℕ} → Clear (psiOrder (length before) target) → pos n ≡ target
-    → psiValue 200000 ≤ℤ pos n → PsiSearched n before r after → PsiInverse target before r after
+    → psiValue coldest ≤ℤ pos n → PsiSearched n before r after → PsiInverse target before r after
 unfolding psiFound
 psi-answered target before {n} c e l h =
     let g = values-given (found psiValue target) c in

@@ -6,8 +6,9 @@ use lib.Dec.{ltb}
 use lib.IntN.{ℤ, pos}
 use lib.ListN.{length}
 use Rattle.signed.specs.Zed.{up, outside}
+use Rattle.rows.specs.Limits.{firstKelvin, lastKelvin}
 use Rattle.rows.specs.Table.{airCp}
-use Rattle.air.specs.Limits.{lookPlaces}
+use Rattle.air.specs.Limits.{lookPlaces, coldest, hottest}
 use Rattle.air.specs.declared.Reading.{Reading}
 use Rattle.air.specs.declared.Reading.the-variants.{Is, Refused}
 use Rattle.air.specs.declared.PsiAnswer.{PsiAnswer}
@@ -23,14 +24,14 @@ paperReading (Refused r) = refused r
 
 -- refusal 6 outside 200,000 to 2,000,000 mK
 abbrev pub heatTold : ℤ → Told ℕ
-heatTold mk = first (6 when outside (pos 200000) (pos 2000000) mk ∷ []) (airHeat (up mk))
+heatTold mk = first (6 when outside (pos coldest) (pos hottest) mk ∷ []) (airHeat (up mk))
 
 abbrev pub psiTold : ℤ → Told ℕ
-psiTold mk = first (6 when outside (pos 200000) (pos 2000000) mk ∷ []) (airPsiAt (up mk))
+psiTold mk = first (6 when outside (pos coldest) (pos hottest) mk ∷ []) (airPsiAt (up mk))
 
 -- Cp as printed, refusal 6 outside 200 to 2,000 whole kelvins
 abbrev pub cpTold : ℤ → Told ℕ
-cpTold kelvin = first (6 when outside (pos 200) (pos 2000) kelvin ∷ []) (airCp (up kelvin))
+cpTold kelvin = first (6 when outside (pos firstKelvin) (pos lastKelvin) kelvin ∷ []) (airCp (up kelvin))
 
 -- psi by temperature, as a value to search
 abbrev pub psiValue : ℕ → ℤ

@@ -5,7 +5,9 @@ use Prim.Native.Nat.{ℕ}
 use lib.IntN.{ℤ, pos}
 use lib.ListN.{length}
 use Rattle.signed.specs.Zed.{up, outside}
+use Rattle.rows.specs.Limits.{firstKelvin, lastKelvin}
 use Rattle.rows.specs.Table.{airCp}
+use Rattle.air.specs.Limits.{coldest, hottest}
 use Rattle.air.specs.declared.Reading.{Reading}
 use Rattle.air.specs.declared.PsiAnswer.{PsiAnswer}
 use Rattle.refusal.specs.Refusals.{_when_, Demand1}
@@ -14,13 +16,13 @@ use Rattle.air.specs.Readings.{airHeat, airPsiAt}
 use Rattle.air.specs.Inverse.{found}
 use Rattle.air.specs.Answers.{paperReading, heatTold, psiTold, cpTold, psiValue, paperPsi, psiOrder, PsiInverse}
 
-pub demand-1-heat : (mk : ℤ) (r : Reading) → paperReading r ≡ heatTold mk → Demand1 (6 when outside (pos 200000) (pos 2000000) mk ∷ []) (airHeat (up mk)) (paperReading r)
+pub demand-1-heat : (mk : ℤ) (r : Reading) → paperReading r ≡ heatTold mk → Demand1 (6 when outside (pos coldest) (pos hottest) mk ∷ []) (airHeat (up mk)) (paperReading r)
 demand-1-heat mk r e = demand-1 _ _ e
 
-pub demand-1-psi : (mk : ℤ) (r : Reading) → paperReading r ≡ psiTold mk → Demand1 (6 when outside (pos 200000) (pos 2000000) mk ∷ []) (airPsiAt (up mk)) (paperReading r)
+pub demand-1-psi : (mk : ℤ) (r : Reading) → paperReading r ≡ psiTold mk → Demand1 (6 when outside (pos coldest) (pos hottest) mk ∷ []) (airPsiAt (up mk)) (paperReading r)
 demand-1-psi mk r e = demand-1 _ _ e
 
-pub demand-1-cp : (kelvin : ℤ) (r : Reading) → paperReading r ≡ cpTold kelvin → Demand1 (6 when outside (pos 200) (pos 2000) kelvin ∷ []) (airCp (up kelvin)) (paperReading r)
+pub demand-1-cp : (kelvin : ℤ) (r : Reading) → paperReading r ≡ cpTold kelvin → Demand1 (6 when outside (pos firstKelvin) (pos lastKelvin) kelvin ∷ []) (airCp (up kelvin)) (paperReading r)
 demand-1-cp kelvin r e = demand-1 _ _ e
 
 pub demand-1-psi_inverse : (target : ℤ) (before : List ℕ) (r : PsiAnswer) (after : List ℕ) → PsiInverse target before r after

@@ -18,6 +18,7 @@ use lib.Dec.{leb, lit<, lit≤}
 use lib.Pow.{pow-pos}
 use lib.ListN.{length, drop, replicate, set, length-set, length-append, length-replicate}
 use lib.Seq.{sets, sets-eq, drop-append-le}
+use Rattle.rows.specs.Limits.{firstKelvin, lastKelvin}
 use Rattle.air.specs.Limits.{lookPlaces}
 use Rattle.air.specs.Halving.{middle, Search, looked, stopped, halvings, halving, highestBy, highest, eleven, Room, Halved}
 use Rattle.refusal.specs.BoolLaws.{by-bool}
@@ -142,11 +143,11 @@ at-least p lo hi =
     look lo hi w a b s x h (suc n) l = omega (arith, h n (omega (arith, pow-succ' 2 n, pow-pos n)))
 
 -- from 200 to 2,000 there are ten looks or eleven
-pub at-least-ten : (p : ℕ → Bool) → 10 ≤ length (halving p 200 2000 .looks)
-at-least-ten p = at-least p 200 2000 (lit< tt) 10 (lit≤ tt)
+pub at-least-ten : (p : ℕ → Bool) → 10 ≤ length (halving p firstKelvin lastKelvin .looks)
+at-least-ten p = at-least p firstKelvin lastKelvin (lit< tt) 10 (lit≤ tt)
 
-pub at-most-eleven : (p : ℕ → Bool) → length (halving p 200 2000 .looks) ≤ lookPlaces
-at-most-eleven p = at-most p 200 2000 (lit< tt) lookPlaces (lit≤ tt)
+pub at-most-eleven : (p : ℕ → Bool) → length (halving p firstKelvin lastKelvin .looks) ≤ lookPlaces
+at-most-eleven p = at-most p firstKelvin lastKelvin (lit< tt) lookPlaces (lit≤ tt)
 
 -- ---- the highest
 highest-by : (p : ℕ → Bool) (from n d : ℕ) → d ≤ n → (0 < d → p (from + d) ≡ true) → ((u : ℕ) → d < u → u ≤ n → p (from + u) ≡ false) → highestBy p from n ≡ from + d
@@ -254,5 +255,5 @@ looks-placed vs h =
     ∙ ap (λ (r : List ℕ). vs ++ r) (drop-replicate (length vs) lookPlaces 0)
 
 -- the row that a search from 200 and 2,000 keeps, and its looks in those places
-pub places-are : {p : ℕ → Bool} {row : ℕ} {places : List ℕ} → Halved p 200 2000 0 (replicate lookPlaces 0) row places → places ≡ eleven (halving p 200 2000 .looks)
-places-are {p} h = h .list-is ∙ looks-placed (halving p 200 2000 .looks) (at-most-eleven p)
+pub places-are : {p : ℕ → Bool} {row : ℕ} {places : List ℕ} → Halved p firstKelvin lastKelvin 0 (replicate lookPlaces 0) row places → places ≡ eleven (halving p firstKelvin lastKelvin .looks)
+places-are {p} h = h .list-is ∙ looks-placed (halving p firstKelvin lastKelvin .looks) (at-most-eleven p)

@@ -9,7 +9,8 @@ use lib.ListN.{drop}
 use lib.Signed.{leZ, ltZ}
 use Rattle.signed.specs.Zed.{eqZ}
 use Rattle.refusal.specs.Refusals.{Told, gives, refused, Line, _when_}
-use Rattle.air.specs.Limits.{lookPlaces}
+use Rattle.rows.specs.Limits.{firstKelvin, lastKelvin}
+use Rattle.air.specs.Limits.{lookPlaces, coldest, hottest}
 use Rattle.air.specs.Halving.{highest, halving, eleven}
 
 -- the value at T is at most the target
@@ -18,7 +19,7 @@ fits v target T = leZ (v T) target
 
 -- the greatest T in mK whose value is at most the target
 unfoldable pub temperature : (ℕ → ℤ) → ℤ → ℕ
-temperature v target = highest (fits v target) 200000 2000000
+temperature v target = highest (fits v target) coldest hottest
 
 -- the target less the value at that T
 unfoldable pub rest : (ℕ → ℤ) → ℤ → ℤ
@@ -26,11 +27,11 @@ rest v target = target -ℤ v (temperature v target)
 
 -- no look where the target is the value at 2,000 K; otherwise those of the halving rule from 200 and 2,000
 unfoldable pub looks : (ℕ → ℤ) → ℤ → List ℕ
-looks v target = cond (eqZ target (v 2000000)) [] (halving (λ k. fits v target (1000 * k)) 200 2000 .looks)
+looks v target = cond (eqZ target (v hottest)) [] (halving (λ k. fits v target (1000 * k)) firstKelvin lastKelvin .looks)
 
 -- refusals 8 and 9: the target below the value at 200 K, above the value at 2,000 K
 abbrev pub unreached : (ℕ → ℤ) → ℤ → List Line
-unreached v target = 8 when ltZ target (v 200000) ∷ 9 when ltZ (v 2000000) target ∷ []
+unreached v target = 8 when ltZ target (v coldest) ∷ 9 when ltZ (v hottest) target ∷ []
 
 -- the temperature in mK, and the rest
 pub record Found : Type 0 where
@@ -48,5 +49,5 @@ written (refused r) l before = before
 -- a value that runs straight from each whole kelvin to the next, rising by `slope` with each mK
 pub record Straight (v : ℕ → ℤ) : Type 0 where
   pub slope : ℕ → ℕ
-  pub rises : (k : ℕ) → 200 ≤ k → k < 2000 → 0 < slope k
-  pub line : (k f : ℕ) → 200 ≤ k → k < 2000 → f ≤ 1000 → v (1000 * k + f) ≡ v (1000 * k) +ℤ pos (f * slope k)
+  pub rises : (k : ℕ) → firstKelvin ≤ k → k < lastKelvin → 0 < slope k
+  pub line : (k f : ℕ) → firstKelvin ≤ k → k < lastKelvin → f ≤ 1000 → v (1000 * k + f) ≡ v (1000 * k) +ℤ pos (f * slope k)

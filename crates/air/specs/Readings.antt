@@ -2,7 +2,9 @@
 use mathlib.Core.Bool.{cond}
 use Prim.Native.Nat.{ℕ, suc, _+_, _-_, _*_, _/_, _%_, _<_, _≤_}
 use lib.Dec.{eqb}
+use Rattle.rows.specs.Limits.{firstKelvin, lastKelvin}
 use Rattle.rows.specs.Table.{airH, airPsi}
+use Rattle.air.specs.Limits.{hottest}
 
 -- between whole kelvins with the figures a and b, f mK above the lower: 1000·a + f·(b − a)
 unfoldable pub reading : ℕ → ℕ → ℕ → ℕ
@@ -10,7 +12,7 @@ reading a b f = 1000 * a + f * (b - a)
 
 -- a column by kelvin, read at a temperature in mK; at 2,000,000 mK the last row alone is used
 unfoldable pub between : (ℕ → ℕ) → ℕ → ℕ
-between col mk = cond (eqb mk 2000000) (1000 * col 2000) (reading (col (mk / 1000)) (col (mk / 1000 + 1)) (mk % 1000))
+between col mk = cond (eqb mk hottest) (1000 * col lastKelvin) (reading (col (mk / 1000)) (col (mk / 1000 + 1)) (mk % 1000))
 
 -- the heat of air per pound, and psi
 unfoldable pub airHeat : ℕ → ℕ
@@ -21,4 +23,4 @@ airPsiAt mk = between airPsi mk
 
 -- no figure is below the one of the kelvin before
 pub record NeverFalls (col : ℕ → ℕ) : Type 0 where
-  pub step : (k : ℕ) → 200 ≤ k → k < 2000 → col k ≤ col (suc k)
+  pub step : (k : ℕ) → firstKelvin ≤ k → k < lastKelvin → col k ≤ col (suc k)

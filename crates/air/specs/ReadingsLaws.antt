@@ -10,24 +10,26 @@ use native.Mathlib.Numerals.{add-one}
 use native.Mathlib.Omega.{arith}
 use lib.Dec.{ltb→lt}
 use lib.IntN.{pos}
+use Rattle.rows.specs.Limits.{firstKelvin, lastKelvin}
 use Rattle.rows.specs.Rows.{rowsH, rowsPsi}
 use Rattle.rows.specs.Table.{column, airH, airPsi}
 use Rattle.rows.specs.TableLaws.{H-grows, psi-grows}
+use Rattle.air.specs.Limits.{coldest, hottest}
 use Rattle.air.specs.Readings.{reading, between, airHeat, airPsiAt, NeverFalls}
 use Rattle.air.specs.Inverse.{Straight}
 use Rattle.air.specs.InverseLaws.{mK-rises}
 
 -- below 2,000,000 mK a reading is that of the two rows around it, and at 2,000,000 that of the last
-pub between-rows : (col : ℕ → ℕ) (mk : ℕ) → mk < 2000000 → reading (col (mk / 1000)) (col (mk / 1000 + 1)) (mk % 1000) ≡ between col mk
+pub between-rows : (col : ℕ → ℕ) (mk : ℕ) → mk < hottest → reading (col (mk / 1000)) (col (mk / 1000 + 1)) (mk % 1000) ≡ between col mk
 unfolding between
-between-rows col mk h = simp (ne-eqb mk 2000000 (omega arith))
+between-rows col mk h = simp (ne-eqb mk hottest (omega arith))
 
-pub between-last : (col : ℕ → ℕ) (mk : ℕ) → mk ≡ 2000000 → 1000 * col 2000 ≡ between col mk
+pub between-last : (col : ℕ → ℕ) (mk : ℕ) → mk ≡ hottest → 1000 * col lastKelvin ≡ between col mk
 unfolding between
-between-last col mk h = simp (eq-eqb mk 2000000 h)
+between-last col mk h = simp (eq-eqb mk hottest h)
 
 -- f mK above the kelvin k, up to the next
-module _ (col : ℕ → ℕ) (k f : ℕ) (u : k < 2000) where
+module _ (col : ℕ → ℕ) (k f : ℕ) (u : k < lastKelvin) where
   below-next : f < 1000 → 1000 * col k + f * (col (suc k) - col k) ≡ between col (1000 * k + f)
   unfolding reading
   below-next h =
@@ -38,14 +40,14 @@ module _ (col : ℕ → ℕ) (k f : ℕ) (u : k < 2000) where
   at-next : f ≡ 1000 → col k ≤ col (suc k) → 1000 * col (suc k) ≡ 1000 * col k + f * (col (suc k) - col k)
   at-next e h = rw e (omega arith)
 
-pub between-whole : (col : ℕ → ℕ) (k : ℕ) → k ≤ 2000 → between col (1000 * k) ≡ 1000 * col k
+pub between-whole : (col : ℕ → ℕ) (k : ℕ) → k ≤ lastKelvin → between col (1000 * k) ≡ 1000 * col k
 between-whole col k u =
     ⊎-elim
     (λ e. sym (between-last col (1000 * k) (omega arith)) ∙ ap (λ (n : ℕ). 1000 * col n) (sym e))
     (λ h. ap (between col) {x = 1000 * k} {y = 1000 * k + 0} (omega arith) ∙ sym (below-next col k 0 h (omega arith)) ∙ omega arith)
     (eq-or-lt-of-le u)
 
-pub between-line : (col : ℕ → ℕ) (k f : ℕ) → k < 2000 → f ≤ 1000 → col k ≤ col (suc k) → between col (1000 * k + f) ≡ 1000 * col k + f * (col (suc k) - col k)
+pub between-line : (col : ℕ → ℕ) (k f : ℕ) → k < lastKelvin → f ≤ 1000 → col k ≤ col (suc k) → between col (1000 * k + f) ≡ 1000 * col k + f * (col (suc k) - col k)
 between-line col k f u l h =
     ⊎-elim
     (λ e. ap (between col) {x = 1000 * k + f} {y = 1000 * suc k} (omega arith) ∙ between-whole col (suc k) (omega arith) ∙ at-next col k f u e h)
@@ -53,10 +55,10 @@ between-line col k f u l h =
     (eq-or-lt-of-le l)
 
 -- a column that grows with each kelvin never falls, and its readings run straight and rise
-pub grows-on : {col : ℕ → ℕ} → ((k : ℕ) → 200 ≤ k → k < 2000 → col k < col (suc k)) → NeverFalls col
+pub grows-on : {col : ℕ → ℕ} → ((k : ℕ) → firstKelvin ≤ k → k < lastKelvin → col k < col (suc k)) → NeverFalls col
 grows-on g = record { step = λ k l u. omega (arith, g k l u) }
 
-unfoldable pub straight : (col : ℕ → ℕ) → ((k : ℕ) → 200 ≤ k → k < 2000 → col k < col (suc k)) → Straight (λ T. pos (between col T))
+unfoldable pub straight : (col : ℕ → ℕ) → ((k : ℕ) → firstKelvin ≤ k → k < lastKelvin → col k < col (suc k)) → Straight (λ T. pos (between col T))
 straight col g = record {
   slope = λ k. col (suc k) - col k;
   rises = λ k l u. omega (arith, g k l u);
@@ -85,10 +87,10 @@ unfolding psi-straight straight
 psi-slope k = refl
 
 -- heat and psi rise from each mK to the next, over the whole range
-pub heat-rises : (T : ℕ) → 200000 ≤ T → T < 2000000 → airHeat T < airHeat (suc T)
+pub heat-rises : (T : ℕ) → coldest ≤ T → T < hottest → airHeat T < airHeat (suc T)
 heat-rises T l u = ltb→lt (airHeat T) (airHeat (suc T)) (mK-rises heat-straight T l u .lt)
 
-pub psi-rises : (T : ℕ) → 200000 ≤ T → T < 2000000 → airPsiAt T < airPsiAt (suc T)
+pub psi-rises : (T : ℕ) → coldest ≤ T → T < hottest → airPsiAt T < airPsiAt (suc T)
 psi-rises T l u = ltb→lt (airPsiAt T) (airPsiAt (suc T)) (mK-rises psi-straight T l u .lt)
 
 -- the readings of the lent columns are those of air

@@ -6,6 +6,7 @@ use Prim.Native.Nat.{ℕ, _+_, _*_, _<_, _≤_}
 use lib.IntN.{pos}
 use lib.ListN.{drop}
 use Rattle.signed.specs.Zed.{up}
+use Rattle.rows.specs.Limits.{firstKelvin, lastKelvin}
 use Rattle.rows.specs.Table.{airPsi}
 use Rattle.air.specs.Limits.{lookPlaces}
 use Rattle.air.specs.declared.PsiAnswer.{PsiAnswer}
@@ -20,8 +21,8 @@ psiFits target k = fits psiValue (pos target) (1000 * k)
 
 -- the row that a search keeps: psi there is at most the target, and at the next kelvin it is not
 pub record PsiRow (target row a b : ℕ) : Type 0 where
-  pub least : 200 ≤ row
-  pub most : row < 2000
+  pub least : firstKelvin ≤ row
+  pub most : row < lastKelvin
   pub here : a ≡ airPsi row
   pub next : b ≡ airPsi (row + 1)
   pub passes : 1000 * a ≤ target

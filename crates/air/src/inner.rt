@@ -7,14 +7,17 @@ ghost use lib.IntN.{pos};
 ghost use lib.ListN.{length, drop};
 ghost use Rattle.signed.specs.Zed.{inZ};
 ghost use Rattle.rows.specs.Table.{column};
-ghost use Rattle.air.specs.Limits.{lookPlaces};
+ghost use Rattle.air.specs.Limits.{lookPlaces, coldest, hottest};
 ghost use Rattle.air.specs.Readings.{reading, between, NeverFalls};
+
+// the last row, in mK
+pub const LAST_MK: u64 = 1000 * rows::LAST_KELVIN;
 
 // Whether the table covers a temperature.
 pub fn covered(t: Millikelvin) -> bool
-    ensures { λ r. ⌜ r ≡ inZ (pos 200000) (pos 2000000) (t .0) ⌝ }
+    ensures { λ r. ⌜ r ≡ inZ (pos coldest) (pos hottest) (t .0) ⌝ }
 {
-    signed::inside(t.0, 200000, 2000000)
+    signed::inside(t.0, crate::COLDEST, crate::HOTTEST)
 }
 
 // A figure a with b the next kelvin's, read f mK above a.
@@ -26,12 +29,12 @@ pub(crate) fn reading_of(a: u64, b: u64, f: u64) -> u64
 }
 
 // A column that never falls, read at a temperature in mK; at 2,000,000 mK no row is read but the last.
-pub(crate) fn read(rows: &[u32; 1801], mk: u64) -> u64
-    requires { ⌜ (200000 ≤ mk) × (mk ≤ 2000000) × NeverFalls (column (now rows)) ⌝ }
+pub(crate) fn read(rows: &[u32; rows::ROWS], mk: u64) -> u64
+    requires { ⌜ (coldest ≤ mk) × (mk ≤ hottest) × NeverFalls (column (now rows)) ⌝ }
     ensures { λ r. ⌜ r ≡ between (column (now (rows .entry))) mk ⌝ }
 {
-    if mk == 2000000 {
-        return 1000 * rows::figure(rows, 2000);
+    if mk == LAST_MK {
+        return 1000 * rows::figure(rows, rows::LAST_KELVIN);
     }
     let k = mk / 1000;
     reading_of(rows::figure(rows, k), rows::figure(rows, k + 1), mk % 1000)

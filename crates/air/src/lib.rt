@@ -24,6 +24,12 @@ pub enum PsiAnswer {
     Refused(Refusal),
 }
 
+// the range of temperatures in mK: 200,000 to 2,000,000
+pub const COLDEST: i64 = 1000 * rows::FIRST_KELVIN as i64;
+pub const HOTTEST: i64 = 1000 * rows::LAST_KELVIN as i64;
+// and in whole kelvins
+const FIRST_KELVIN: i64 = rows::FIRST_KELVIN as i64;
+const LAST_KELVIN: i64 = rows::LAST_KELVIN as i64;
 // places for the looks of a search
 pub const LOOK_PLACES: usize = 11;
 // 15 °C in mK
@@ -64,7 +70,7 @@ pub fn psi(t: Millikelvin) -> Reading
 pub fn cp(kelvin: i64) -> Reading
     ensures { λ r. ⌜ paperReading r ≡ cpTold kelvin ⌝ }
 {
-    if !signed::inside(kelvin, 200, 2000) {
+    if !signed::inside(kelvin, FIRST_KELVIN, LAST_KELVIN) {
         return Reading::Refused(Refusal::Plain(TEMPERATURE));
     }
     let printed = rows::columns::cp_column();
@@ -79,10 +85,10 @@ pub fn psi_inverse(target: i64, looks: &mut [u32]) -> PsiAnswer
         return PsiAnswer::Refused(Refusal::Plain(LIST_SHORT));
     }
     let column = rows::columns::psi_column();
-    if target < signed::of_u64(1000 * rows::figure(&column, 200)) {
+    if target < signed::of_u64(1000 * rows::figure(&column, rows::FIRST_KELVIN)) {
         return PsiAnswer::Refused(Refusal::Plain(BELOW));
     }
-    if signed::of_u64(1000 * rows::figure(&column, 2000)) < target {
+    if signed::of_u64(1000 * rows::figure(&column, rows::LAST_KELVIN)) < target {
         return PsiAnswer::Refused(Refusal::Plain(ABOVE));
     }
     search::psi_reached(signed::to_u64(target), looks, &column)

@@ -7,6 +7,7 @@ ghost use mathlib.Core.Path.{_≡_};
 ghost use Prim.Native.Nat.{_≤_, _<_, _*_};
 ghost use lib.IntN.{pos};
 ghost use lib.ListN.{length};
+ghost use Rattle.rows.specs.Limits.{firstKelvin, lastKelvin};
 ghost use Rattle.rows.specs.Rows.{rowsPsi};
 ghost use Rattle.rows.specs.Table.{airPsi};
 ghost use Rattle.air.specs.Limits.{lookPlaces};
@@ -14,8 +15,8 @@ ghost use Rattle.air.specs.Halving.{Room, Halved};
 ghost use Rattle.air.specs.Search.{psiFits, PsiRow, psiFound, PsiSearched};
 
 // The halving rule between lo and hi: the row that it keeps. The looks go into the list from `at` on.
-fn halve(lo: u64, hi: u64, target: u64, looks: &mut [u32; crate::LOOK_PLACES], at: usize, psi: &[u32; 1801]) -> u64
-    requires { ⌜ (200 ≤ lo) × (lo < hi) × (hi ≤ 2000) × (now psi ≡ rowsPsi) × (length (now looks) ≡ lookPlaces) × Room (psiFits target) lo hi at (now looks) ⌝ }
+fn halve(lo: u64, hi: u64, target: u64, looks: &mut [u32; crate::LOOK_PLACES], at: usize, psi: &[u32; rows::ROWS]) -> u64
+    requires { ⌜ (firstKelvin ≤ lo) × (lo < hi) × (hi ≤ lastKelvin) × (now psi ≡ rowsPsi) × (length (now looks) ≡ lookPlaces) × Room (psiFits target) lo hi at (now looks) ⌝ }
     ensures { λ r. ⌜ Halved (psiFits target) lo hi at (now (looks .entry)) r (now (looks .exit)) ⌝ }
 {
     if hi <= lo + 1 {
@@ -42,16 +43,16 @@ fn divide(target: u64, row: u64, a: u64, b: u64) -> PsiAnswer
 }
 
 // The answer to a target that the table reaches.
-pub(crate) fn psi_reached(target: u64, looks: &mut [u32], psi: &[u32; 1801]) -> PsiAnswer
-    requires { ⌜ (now psi ≡ rowsPsi) × (lookPlaces ≤ length (now looks)) × (1000 * airPsi 200 ≤ target) × (target ≤ 1000 * airPsi 2000) ⌝ }
+pub(crate) fn psi_reached(target: u64, looks: &mut [u32], psi: &[u32; rows::ROWS]) -> PsiAnswer
+    requires { ⌜ (now psi ≡ rowsPsi) × (lookPlaces ≤ length (now looks)) × (1000 * airPsi firstKelvin ≤ target) × (target ≤ 1000 * airPsi lastKelvin) ⌝ }
     ensures { λ r. ⌜ PsiSearched target (now (looks .entry)) r (now (looks .exit)) ⌝ }
 {
     let mut eleven = [0u32; crate::LOOK_PLACES];
-    if target == 1000 * rows::figure(psi, 2000) {
+    if target == 1000 * rows::figure(psi, rows::LAST_KELVIN) {
         inner::lay(&eleven, looks);
-        return PsiAnswer::At(Millikelvin(2000000), 0);
+        return PsiAnswer::At(Millikelvin(crate::HOTTEST), 0);
     }
-    let row = halve(200, 2000, target, &mut eleven, 0, psi);
+    let row = halve(rows::FIRST_KELVIN, rows::LAST_KELVIN, target, &mut eleven, 0, psi);
     inner::lay(&eleven, looks);
     divide(
         target,

@@ -7,16 +7,18 @@ use native.Mathlib.Omega.{arith}
 use lib.Dec.{leb}
 use lib.ListN.{length, getD}
 use borrow.Author.Tests.{leb-true, le-ltb}
+use Rattle.rows.specs.Limits.{firstKelvin, tableRows}
 use Rattle.text.specs.ReadingLaws.{and-left, and-right}
 use Rattle.rows.specs.Rows.{rowsH}
 use Rattle.rows.specs.Table.{airH, column}
+use Rattle.sheet.specs.Limits.{mostFigure, sheetNumbers}
 use Rattle.sheet.specs.Sheet.{o2, co2, h2o, overLimit, breaksStep, badRow, Accepted}
 use Rattle.sheet.specs.SheetLaws.{over-no, step-kept}
 use Rattle.built_in.specs.BuiltIn.{builtIn}
 
 -- ---- the test: each row against the one before, with air's figures. Row 0 is held against a row of zeros, which asks no less than the rule does
 rowKeeps : ℕ → ℕ → ℕ → ℕ → ℕ → ℕ → ℕ → ℕ → Bool
-rowKeeps a b c h d e f x = leb a d && (leb b e && (leb c f && (leb (d - a) (4 * (x - h)) && (leb d 200000 && (leb e 200000 && leb f 200000)))))
+rowKeeps a b c h d e f x = leb a d && (leb b e && (leb c f && (leb (d - a) (4 * (x - h)) && (leb d mostFigure && (leb e mostFigure && leb f mostFigure)))))
 
 keepsFrom : ℕ → ℕ → ℕ → ℕ → List ℕ → List ℕ → Bool
 keepsFrom a b c h [] hs = true
@@ -39,7 +41,7 @@ cell-next a b c s i j = let e : 3 * suc i + j ≡ suc (suc (suc (3 * i + j))) = 
 record Kept (s hs : List ℕ) (i : ℕ) : Type 0 where
   up : (j : ℕ) → j < 3 → cell s i j ≤ cell s (suc i) j
   slow : cell s (suc i) 0 - cell s i 0 ≤ 4 * (getD hs (suc i) 0 - getD hs i 0)
-  most : (j : ℕ) → j < 3 → cell s (suc i) j ≤ 200000
+  most : (j : ℕ) → j < 3 → cell s (suc i) j ≤ mostFigure
 
 kept-next : (a b c h : ℕ) (s hs : List ℕ) (i : ℕ) → Kept s hs i → Kept (a ∷ b ∷ c ∷ s) (h ∷ hs) (suc i)
 kept-next a b c h s hs i k = record {
@@ -52,16 +54,16 @@ kept-first : (a b c h d e f x : ℕ) (s hs : List ℕ) → rowKeeps a b c h d e 
 unfolding rowKeeps cell
 kept-first a b c h d e f x s hs t = record { up = up; slow = leb-true _ _ (and-left _ _ t3); most = most }
   where
-    t1 : (leb b e && (leb c f && (leb (d - a) (4 * (x - h)) && (leb d 200000 && (leb e 200000 && leb f 200000))))) ≡ true
+    t1 : (leb b e && (leb c f && (leb (d - a) (4 * (x - h)) && (leb d mostFigure && (leb e mostFigure && leb f mostFigure))))) ≡ true
     t1 = and-right (leb a d) _ t
 
-    t2 : (leb c f && (leb (d - a) (4 * (x - h)) && (leb d 200000 && (leb e 200000 && leb f 200000)))) ≡ true
+    t2 : (leb c f && (leb (d - a) (4 * (x - h)) && (leb d mostFigure && (leb e mostFigure && leb f mostFigure)))) ≡ true
     t2 = and-right (leb b e) _ t1
 
-    t3 : (leb (d - a) (4 * (x - h)) && (leb d 200000 && (leb e 200000 && leb f 200000))) ≡ true
+    t3 : (leb (d - a) (4 * (x - h)) && (leb d mostFigure && (leb e mostFigure && leb f mostFigure))) ≡ true
     t3 = and-right (leb c f) _ t2
 
-    t4 : (leb d 200000 && (leb e 200000 && leb f 200000)) ≡ true
+    t4 : (leb d mostFigure && (leb e mostFigure && leb f mostFigure)) ≡ true
     t4 = and-right (leb (d - a) (4 * (x - h))) _ t3
 
     up : (j : ℕ) → j < 3 → getD (a ∷ b ∷ c ∷ d ∷ e ∷ f ∷ s) (3 * 0 + j) 0 ≤ getD (a ∷ b ∷ c ∷ d ∷ e ∷ f ∷ s) (3 * 1 + j) 0
@@ -70,10 +72,10 @@ kept-first a b c h d e f x s hs t = record { up = up; slow = leb-true _ _ (and-l
     up (suc (suc zero)) g = leb-true _ _ (and-left _ _ t2)
     up (suc (suc (suc j))) g = absurd (omega arith)
 
-    most : (j : ℕ) → j < 3 → getD (a ∷ b ∷ c ∷ d ∷ e ∷ f ∷ s) (3 * 1 + j) 0 ≤ 200000
+    most : (j : ℕ) → j < 3 → getD (a ∷ b ∷ c ∷ d ∷ e ∷ f ∷ s) (3 * 1 + j) 0 ≤ mostFigure
     most zero g = leb-true _ _ (and-left _ _ t4)
-    most (suc zero) g = leb-true _ _ (and-left _ _ (and-right (leb d 200000) _ t4))
-    most (suc (suc zero)) g = leb-true _ _ (and-right (leb e 200000) _ (and-right (leb d 200000) _ t4))
+    most (suc zero) g = leb-true _ _ (and-left _ _ (and-right (leb d mostFigure) _ t4))
+    most (suc (suc zero)) g = leb-true _ _ (and-right (leb e mostFigure) _ (and-right (leb d mostFigure) _ t4))
     most (suc (suc (suc j))) g = absurd (omega arith)
 
 kept-at : (s hs : List ℕ) (a b c h i : ℕ) → keepsFrom a b c h s hs ≡ true → 3 * i < length s → Kept (a ∷ b ∷ c ∷ s) (h ∷ hs) i
@@ -87,62 +89,62 @@ kept-at (d ∷ e ∷ f ∷ s) (x ∷ hs) a b c h (suc i) t u =
     kept-next a b c h (d ∷ e ∷ f ∷ s) (x ∷ hs) i (kept-at s hs d e f x i (and-right (rowKeeps a b c h d e f x) _ t) (omega arith))
 
 -- ---- the columns by kelvin, by row
-o2-cell : (s : List ℕ) (i k : ℕ) → k ≡ 200 + i → o2 s k ≡ cell s i 0
+o2-cell : (s : List ℕ) (i k : ℕ) → k ≡ firstKelvin + i → o2 s k ≡ cell s i 0
 unfolding o2 cell
-o2-cell s i k e = let q : 3 * (k - 200) ≡ 3 * i + 0 = omega arith in ap (λ (x : ℕ). getD s x 0) q
+o2-cell s i k e = let q : 3 * (k - firstKelvin) ≡ 3 * i + 0 = omega arith in ap (λ (x : ℕ). getD s x 0) q
 
-co2-cell : (s : List ℕ) (i k : ℕ) → k ≡ 200 + i → co2 s k ≡ cell s i 1
+co2-cell : (s : List ℕ) (i k : ℕ) → k ≡ firstKelvin + i → co2 s k ≡ cell s i 1
 unfolding co2 cell
-co2-cell s i k e = let q : 3 * (k - 200) + 1 ≡ 3 * i + 1 = omega arith in ap (λ (x : ℕ). getD s x 0) q
+co2-cell s i k e = let q : 3 * (k - firstKelvin) + 1 ≡ 3 * i + 1 = omega arith in ap (λ (x : ℕ). getD s x 0) q
 
-h2o-cell : (s : List ℕ) (i k : ℕ) → k ≡ 200 + i → h2o s k ≡ cell s i 2
+h2o-cell : (s : List ℕ) (i k : ℕ) → k ≡ firstKelvin + i → h2o s k ≡ cell s i 2
 unfolding h2o cell
-h2o-cell s i k e = let q : 3 * (k - 200) + 2 ≡ 3 * i + 2 = omega arith in ap (λ (x : ℕ). getD s x 0) q
+h2o-cell s i k e = let q : 3 * (k - firstKelvin) + 2 ≡ 3 * i + 2 = omega arith in ap (λ (x : ℕ). getD s x 0) q
 
-air-row : (i k : ℕ) → k ≡ 200 + i → airH k ≡ getD rowsH i 0
+air-row : (i k : ℕ) → k ≡ firstKelvin + i → airH k ≡ getD rowsH i 0
 unfolding airH column
-air-row i k e = let q : k - 200 ≡ i = omega arith in simp (le-ltb k 200 (omega arith)) (ap (λ (x : ℕ). getD rowsH x 0) q)
+air-row i k e = let q : k - firstKelvin ≡ i = omega arith in simp (le-ltb k firstKelvin (omega arith)) (ap (λ (x : ℕ). getD rowsH x 0) q)
 
 -- ---- a list that passes is accepted
-module _ (s : List ℕ) (n : length s ≡ 5403) (t : passes s rowsH ≡ true) where
-  kept : (i : ℕ) → i < 1801 → Kept (0 ∷ 0 ∷ 0 ∷ s) (0 ∷ rowsH) i
+module _ (s : List ℕ) (n : length s ≡ sheetNumbers) (t : passes s rowsH ≡ true) where
+  kept : (i : ℕ) → i < tableRows → Kept (0 ∷ 0 ∷ 0 ∷ s) (0 ∷ rowsH) i
   unfolding passes
   kept i h = kept-at s rowsH 0 0 0 0 i t (omega arith)
 
-  most-at : (i j : ℕ) → i < 1801 → j < 3 → cell s i j ≤ 200000
+  most-at : (i j : ℕ) → i < tableRows → j < 3 → cell s i j ≤ mostFigure
   most-at i j h g = rw (cell-next 0 0 0 s i j) at (kept i h .most j g)
 
-  up-at : (i j : ℕ) → suc i < 1801 → j < 3 → cell s i j ≤ cell s (suc i) j
+  up-at : (i j : ℕ) → suc i < tableRows → j < 3 → cell s i j ≤ cell s (suc i) j
   up-at i j h g = rw (cell-next 0 0 0 s i j, cell-next 0 0 0 s (suc i) j) at (kept (suc i) h .up j g)
 
-  slow-at : (i : ℕ) → suc i < 1801 → cell s (suc i) 0 - cell s i 0 ≤ 4 * (getD rowsH (suc i) 0 - getD rowsH i 0)
+  slow-at : (i : ℕ) → suc i < tableRows → cell s (suc i) 0 - cell s i 0 ≤ 4 * (getD rowsH (suc i) 0 - getD rowsH i 0)
   slow-at i h = rw (cell-next 0 0 0 s i 0, cell-next 0 0 0 s (suc i) 0) at (kept (suc i) h .slow)
 
   -- by kelvin
-  row-limit : (i k : ℕ) → k ≡ 200 + i → i < 1801 → overLimit s k ≡ false
+  row-limit : (i k : ℕ) → k ≡ firstKelvin + i → i < tableRows → overLimit s k ≡ false
   row-limit i k e h = over-no s k record {
     o2-most = omega (arith, o2-cell s i k e, most-at i 0 h (omega arith));
     co2-most = omega (arith, co2-cell s i k e, most-at i 1 h (omega arith));
     h2o-most = omega (arith, h2o-cell s i k e, most-at i 2 h (omega arith));
   }
 
-  row-step : (i : ℕ) → suc i < 1801 → breaksStep s (200 + i) ≡ false
-  row-step i h = step-kept s (200 + i) record {
-    o2-up = omega (arith, o2-cell s i (200 + i) refl, o2-cell s (suc i) (suc (200 + i)) (omega arith), up-at i 0 h (omega arith));
-    co2-up = omega (arith, co2-cell s i (200 + i) refl, co2-cell s (suc i) (suc (200 + i)) (omega arith), up-at i 1 h (omega arith));
-    h2o-up = omega (arith, h2o-cell s i (200 + i) refl, h2o-cell s (suc i) (suc (200 + i)) (omega arith), up-at i 2 h (omega arith));
-    o2-rise = omega (arith, o2-cell s i (200 + i) refl, o2-cell s (suc i) (suc (200 + i)) (omega arith), air-row i (200 + i) refl, air-row (suc i) (suc (200 + i)) (omega arith), slow-at i h);
+  row-step : (i : ℕ) → suc i < tableRows → breaksStep s (firstKelvin + i) ≡ false
+  row-step i h = step-kept s (firstKelvin + i) record {
+    o2-up = omega (arith, o2-cell s i (firstKelvin + i) refl, o2-cell s (suc i) (suc (firstKelvin + i)) (omega arith), up-at i 0 h (omega arith));
+    co2-up = omega (arith, co2-cell s i (firstKelvin + i) refl, co2-cell s (suc i) (suc (firstKelvin + i)) (omega arith), up-at i 1 h (omega arith));
+    h2o-up = omega (arith, h2o-cell s i (firstKelvin + i) refl, h2o-cell s (suc i) (suc (firstKelvin + i)) (omega arith), up-at i 2 h (omega arith));
+    o2-rise = omega (arith, o2-cell s i (firstKelvin + i) refl, o2-cell s (suc i) (suc (firstKelvin + i)) (omega arith), air-row i (firstKelvin + i) refl, air-row (suc i) (suc (firstKelvin + i)) (omega arith), slow-at i h);
   }
 
-  row-good : (r : ℕ) → r < 1801 → badRow s r ≡ false
-  row-good zero h = row-limit 0 200 refl h
-  row-good (suc r) h = rw (row-limit (suc r) (200 + suc r) refl h, row-step r h) refl
+  row-good : (r : ℕ) → r < tableRows → badRow s r ≡ false
+  row-good zero h = row-limit 0 firstKelvin refl h
+  row-good (suc r) h = rw (row-limit (suc r) (firstKelvin + suc r) refl h, row-step r h) refl
 
   passed-accepted : Accepted s
   passed-accepted = record { long = n; noBadRow = row-good }
 
 -- ---- the built-in sheet passes
-built-in-long : length builtIn ≡ 5403
+built-in-long : length builtIn ≡ sheetNumbers
 unfolding builtIn
 built-in-long = refl
 

@@ -3,7 +3,7 @@
 ghost use mathlib.Core.Path.{_≡_};
 ghost use Rattle.built_in.specs.BuiltIn.{builtIn};
 
-const SHEET: [u32; 5403] = [
+const SHEET: [u32; sheet::NUMBERS] = [
     4326,
     3236,
     8776,
@@ -5410,7 +5410,7 @@ const SHEET: [u32; 5403] = [
 ];
 
 // The built-in sheet as a list, row by row.
-pub fn sheet() -> [u32; 5403]
+pub fn sheet() -> [u32; sheet::NUMBERS]
     ensures { λ r. ⌜ r ≡ builtIn ⌝ }
 {
     SHEET

@@ -8,6 +8,7 @@ use borrow.Author.Tests.{eq-eqb, ne-eqb}
 use Rattle.air.specs.declared.PsiAnswer.{PsiAnswer}
 use Rattle.refusal.specs.Refusals.{Told}
 use Rattle.air.specs.Answers.{paperPsi, PsiInverse}
+use Rattle.sheet.specs.Limits.{sheetNumbers}
 use Rattle.sheet.specs.declared.SheetAnswer.{SheetAnswer}
 use Rattle.sheet.specs.declared.SheetAnswer.the-variants.{Good, Refused}
 use Rattle.sheet.specs.Answers.{paper, numbersOf, listAfter, SheetRead}
@@ -40,11 +41,11 @@ sheet-told {before = before} {a = a} p q =
     }
 
 -- the built-in sheet, for a list of its length and for any other
-pub built-in-refused : (l : List ℕ) → (length l ≡ 5403 → ⊥) → BuiltInIs l (record { refusal = 1; row = 0; placed = 0 }) l
-built-in-refused l n = record { told = rw (ne-eqb (length l) 5403 n) refl; list = rw (ne-eqb (length l) 5403 n) refl }
+pub built-in-refused : (l : List ℕ) → (length l ≡ sheetNumbers → ⊥) → BuiltInIs l (record { refusal = 1; row = 0; placed = 0 }) l
+built-in-refused l n = record { told = rw (ne-eqb (length l) sheetNumbers n) refl; list = rw (ne-eqb (length l) sheetNumbers n) refl }
 
-pub built-in-told : (l : List ℕ) {later : List ℕ} → length l ≡ 5403 → later ≡ builtIn → BuiltInIs l (record { refusal = 0; row = 0; placed = 0 }) later
-built-in-told l n e = record { told = rw (eq-eqb (length l) 5403 n) refl; list = rw (eq-eqb (length l) 5403 n) e }
+pub built-in-told : (l : List ℕ) {later : List ℕ} → length l ≡ sheetNumbers → later ≡ builtIn → BuiltInIs l (record { refusal = 0; row = 0; placed = 0 }) later
+built-in-told l n e = record { told = rw (eq-eqb (length l) sheetNumbers n) refl; list = rw (eq-eqb (length l) sheetNumbers n) e }
 
 pub temperature-told : {w : Weights} {ch : Charge} {target : ℤ} {s before after : List ℕ} {a : TemperatureAnswer} {r : TemperatureTold}
     → Temperature w ch target s before a after → r ≡ flatTemperature (paperTemperature a) → TemperatureIs w ch target s before r after

@@ -14,6 +14,8 @@ use Rattle.signed.specs.Zed.{outside}
 use Rattle.refusal.specs.Refusals.{Told, gives, Line, _when_, _at-place_when_, lineNumber, first, First, here, after, Clear}
 use Rattle.refusal.specs.BoolLaws.{by-bool}
 use Rattle.refusal.specs.RefusalsLaws.{first-or-clear, refusal-given, values-given}
+use Rattle.rows.specs.Limits.{firstKelvin, lastKelvin}
+use Rattle.air.specs.Limits.{coldest, hottest}
 use Rattle.air.specs.Inverse.{unreached}
 use Rattle.air.specs.Answers.{heatTold as airHeatTold, psiTold as airPsiTold, cpTold as airCpTold, psiOrder}
 use Rattle.sheet.specs.Sheet.{notLong}
@@ -81,13 +83,13 @@ pub «demand-1-gaskeys_built_in_sheet» : {before later : List ℕ} {r : SheetTo
 «demand-1-gaskeys_built_in_sheet» h = rw (h .told) (flat-demand-1 _ tt refl)
 
 -- ---- air
-pub demand-1-gaskeys_air_heat : (mk : ℤ) (r : ReadingTold) → r ≡ flatReading (airHeatTold mk) → FlatDemand1 (6 when outside (pos 200000) (pos 2000000) mk ∷ []) (r .refusal) (r .row) (r .placed)
+pub demand-1-gaskeys_air_heat : (mk : ℤ) (r : ReadingTold) → r ≡ flatReading (airHeatTold mk) → FlatDemand1 (6 when outside (pos coldest) (pos hottest) mk ∷ []) (r .refusal) (r .row) (r .placed)
 demand-1-gaskeys_air_heat mk r e = rw e (flat-demand-1 _ _ refl)
 
-pub demand-1-gaskeys_air_psi : (mk : ℤ) (r : ReadingTold) → r ≡ flatReading (airPsiTold mk) → FlatDemand1 (6 when outside (pos 200000) (pos 2000000) mk ∷ []) (r .refusal) (r .row) (r .placed)
+pub demand-1-gaskeys_air_psi : (mk : ℤ) (r : ReadingTold) → r ≡ flatReading (airPsiTold mk) → FlatDemand1 (6 when outside (pos coldest) (pos hottest) mk ∷ []) (r .refusal) (r .row) (r .placed)
 demand-1-gaskeys_air_psi mk r e = rw e (flat-demand-1 _ _ refl)
 
-pub demand-1-gaskeys_air_cp : (kelvin : ℤ) (r : ReadingTold) → r ≡ flatReading (airCpTold kelvin) → FlatDemand1 (6 when outside (pos 200) (pos 2000) kelvin ∷ []) (r .refusal) (r .row) (r .placed)
+pub demand-1-gaskeys_air_cp : (kelvin : ℤ) (r : ReadingTold) → r ≡ flatReading (airCpTold kelvin) → FlatDemand1 (6 when outside (pos firstKelvin) (pos lastKelvin) kelvin ∷ []) (r .refusal) (r .row) (r .placed)
 demand-1-gaskeys_air_cp kelvin r e = rw e (flat-demand-1 _ _ refl)
 
 pub demand-1-gaskeys_psi_inverse : {target : ℤ} {before after : List ℕ} {r : PsiTold} → PsiIs target before r after → FlatDemand1 (psiOrder (length before) target) (r .refusal) (r .row) (r .placed)

@@ -145,7 +145,7 @@ pub extern "C" fn gaskeys_judge_sheet(list: &[u32]) -> SheetTold
 pub extern "C" fn gaskeys_built_in_sheet(list: &mut [u32]) -> SheetTold
     ensures { λ r. ⌜ BuiltInIs (now (list .entry)) r (now (list .exit)) ⌝ }
 {
-    if list.len() != 5403 {
+    if list.len() != sheet::NUMBERS {
         return telling::tell_sheet(SheetAnswer::Refused(Refusal::Plain(sheet::LIST_LENGTH)));
     }
     let numbers = built_in::sheet();

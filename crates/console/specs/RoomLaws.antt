@@ -12,7 +12,8 @@ use lib.IntN.{ℤ, pos, negsuc, _-ℤ_}
 use lib.ListN.{length, drop, getD, length-append}
 use lib.Signed.{ltZ, _≤ℤ_}
 use Rattle.signed.specs.Zed.{up, dn, outside, in-range, inZ, eqZ, is-self, is-pos, is-minus, apart, le-parts, le-from, ltZ-false, no-ltZ, zed}
-use Rattle.air.specs.Limits.{lookPlaces}
+use Rattle.rows.specs.Limits.{firstKelvin, lastKelvin, tableRows}
+use Rattle.air.specs.Limits.{lookPlaces, coldest, hottest}
 use Rattle.text.specs.Decimal.{decimal, decimalZ}
 use Rattle.text.specs.DecimalLaws.{one-digit, last-digit}
 use Rattle.text.specs.Put.{Put}
@@ -127,19 +128,19 @@ low-most : {ks : List ℕ} → Low ks → length (fieldsText (map pos ks)) ≤ 5
 low-most none = omega arith
 low-most (next {k} {ks} h l) = let e = length-append (decimal k) (fieldsText (map pos ks)) in omega (arith, row-most k h, low-most l)
 
-halving-low : (p : ℕ → Bool) → Low (halving p 200 2000 .looks)
+halving-low : (p : ℕ → Bool) → Low (halving p firstKelvin lastKelvin .looks)
 halving-low p =
-    halving-ind p (λ lo hi s. hi ≤ 2000 → Low (s .looks))
+    halving-ind p (λ lo hi s. hi ≤ lastKelvin → Low (s .looks))
     (λ lo l. none)
     (λ lo hi s w e h l. next (omega arith) (h l))
     (λ lo hi s w e h l. next (omega arith) (h (omega arith)))
-    200 2000 (omega arith) (omega arith)
+    firstKelvin lastKelvin (omega arith) (omega arith)
 
 looks-low : (v : ℕ → ℤ) (t : ℤ) → Low (looks v t)
 unfolding looks
-looks-low v t = low (eqZ t (v 2000000))
+looks-low v t = low (eqZ t (v hottest))
   where
-    low : (b : Bool) → Low (cond b [] (halving (λ k. fits v t (1000 * k)) 200 2000 .looks))
+    low : (b : Bool) → Low (cond b [] (halving (λ k. fits v t (1000 * k)) firstKelvin lastKelvin .looks))
     low true = none
     low false = halving-low (λ k. fits v t (1000 * k))
 
@@ -204,7 +205,7 @@ told-most {A} values k ls a h f v = go (first ls a) refl
     go (refused r) e = omega (arith, refusal-most r (small-told ls a f e))
 
 few-sheet : (s : List ℕ) → Few (sheetLines s)
-few-sheet s = plain (lit< tt) (row {r = firstBadRow s} {c = ltb (firstBadRow s) 1801} (lit< tt) (λ e. omega (arith, ltb-true (firstBadRow s) 1801 e)) few-none)
+few-sheet s = plain (lit< tt) (row {r = firstBadRow s} {c = ltb (firstBadRow s) tableRows} (lit< tt) (λ e. omega (arith, ltb-true (firstBadRow s) tableRows e)) few-none)
 
 few-heat : (w : Weights) (ch : Charge) (mk : ℤ) (s : List ℕ) → Few (heatOrder w ch mk s)
 few-heat w ch mk s = few-append (few-sheet s) (plain (lit< tt) (plain (lit< tt) (plain (lit< tt) few-none)))
@@ -212,10 +213,10 @@ few-heat w ch mk s = few-append (few-sheet s) (plain (lit< tt) (plain (lit< tt) 
 -- ---- readings of the air table
 between-most : (col : ℕ → ℕ) (m : ℕ) → ((k : ℕ) → col k ≤ m) → (T : ℕ) → between col T ≤ 2000 * m
 unfolding between reading
-between-most col m h T = go (eqb T 2000000)
+between-most col m h T = go (eqb T hottest)
   where
-    go : (b : Bool) → cond b (1000 * col 2000) (1000 * col (T / 1000) + T % 1000 * (col (T / 1000 + 1) - col (T / 1000))) ≤ 2000 * m
-    go true = omega (arith, h 2000)
+    go : (b : Bool) → cond b (1000 * col lastKelvin) (1000 * col (T / 1000) + T % 1000 * (col (T / 1000 + 1) - col (T / 1000))) ≤ 2000 * m
+    go true = omega (arith, h lastKelvin)
     go false =
         let f : T % 1000 ≤ 1000 = omega arith in
         let d : col (T / 1000 + 1) - col (T / 1000) ≤ m = omega (arith, h (T / 1000 + 1)) in
@@ -238,11 +239,11 @@ cps-low = refl
 
 cp-low : (k : ℕ) → airCp k < 10000
 unfolding airCp column
-cp-low k = go (ltb k 200)
+cp-low k = go (ltb k firstKelvin)
   where
-    go : (b : Bool) → cond b 0 (getD rowsCp (k - 200) 0) < 10000
+    go : (b : Bool) → cond b 0 (getD rowsCp (k - firstKelvin) 0) < 10000
     go true = lit< tt
-    go false = low-at rowsCp (k - 200) cps-low
+    go false = low-at rowsCp (k - firstKelvin) cps-low
 
 short-air-heat : (mk : ℤ) → length (airText AirHeat mk) ≤ replyRoom
 unfolding airHeat
@@ -255,7 +256,7 @@ short-air-psi mk = told-most (λ n. okText ++ (9 ∷ decimal n)) replyRoom (temp
     (λ c. omega (arith, number-most (airPsiAt (up mk)) (omega (arith, between-most airPsi 133151 psi-most (up mk)))))
 
 short-air-cp : (k : ℤ) → length (airText AirCp k) ≤ replyRoom
-short-air-cp k = told-most (λ n. okText ++ (9 ∷ decimal n)) replyRoom (6 when outside (pos 200) (pos 2000) k ∷ []) (airCp (up k)) (lit≤ tt) (plain (lit< tt) few-none)
+short-air-cp k = told-most (λ n. okText ++ (9 ∷ decimal n)) replyRoom (6 when outside (pos firstKelvin) (pos lastKelvin) k ∷ []) (airCp (up k)) (lit≤ tt) (plain (lit< tt) few-none)
     (λ c. omega (arith, row-most (airCp (up k)) (cp-low (up k))))
 
 psi-at-most : (T : ℕ) → airPsiAt T ≤ 266302000
@@ -263,10 +264,10 @@ unfolding airPsiAt
 psi-at-most T = between-most airPsi 133151 psi-most T
 
 -- ---- an inverse whose value is neither far below nor far above 0
-module _ (v : ℕ → ℤ) (t : ℤ) (l : ltZ t (v 200000) ≡ false) (u : ltZ (v 2000000) t ≡ false)
-    (most : (T : ℕ) → 200000 ≤ T → T ≤ 2000000 → up (v T) ≤ 2000000000000000000) (least : (T : ℕ) → 200000 ≤ T → T ≤ 2000000 → dn (v T) ≤ 2000000000000000000) where
-  reached : v 200000 ≤ℤ t
-  reached = le-from (ltZ-false t (v 200000) l)
+module _ (v : ℕ → ℤ) (t : ℤ) (l : ltZ t (v coldest) ≡ false) (u : ltZ (v hottest) t ≡ false)
+    (most : (T : ℕ) → coldest ≤ T → T ≤ hottest → up (v T) ≤ 2000000000000000000) (least : (T : ℕ) → coldest ≤ T → T ≤ hottest → dn (v T) ≤ 2000000000000000000) where
+  reached : v coldest ≤ℤ t
+  reached = le-from (ltZ-false t (v coldest) l)
 
   rest-narrow : Narrow (rest v t)
   unfolding rest
@@ -277,7 +278,7 @@ module _ (v : ℕ → ℤ) (t : ℤ) (l : ltZ t (v 200000) ≡ false) (u : ltZ (
       let z = is-minus (is-self t) (is-self (v T)) in
       let p = le-parts (rest-least v t reached) in
       record {
-        above = omega (arith, z, apart t, ltZ-false (v 2000000) t u, most 2000000 (lit≤ tt) (lit≤ tt), least T a b, apart (t -ℤ v T));
+        above = omega (arith, z, apart t, ltZ-false (v hottest) t u, most hottest (lit≤ tt) (lit≤ tt), least T a b, apart (t -ℤ v T));
         below = omega (arith, apart (t -ℤ v T));
       }
 
@@ -287,7 +288,7 @@ module _ (v : ℕ → ℤ) (t : ℤ) (l : ltZ t (v 200000) ≡ false) (u : ltZ (
       simp length-append
       (omega (arith, number-most (temperature v t) (omega arith), field-most (rest v t) rest-narrow, simp length-append at (counted-most v t)))
 
-ends : (v : ℕ → ℤ) (t : ℤ) → Clear (unreached v t) → (ltZ t (v 200000) ≡ false) × (ltZ (v 2000000) t ≡ false)
+ends : (v : ℕ → ℤ) (t : ℤ) → Clear (unreached v t) → (ltZ t (v coldest) ≡ false) × (ltZ (v hottest) t ≡ false)
 ends v t (clear a (clear b n)) = (a, b)
 
 tail-clear : {l : Line} {ls : List Line} → Clear (l ∷ ls) → Clear ls
@@ -349,9 +350,9 @@ module _ (s : List ℕ) (ch : Charge) (n : ℤ) where
       let h = readable c in
       let b = h .burns in
       let k = h .accepted in
-      let i = in-range (pos 200000) (pos 2000000) n (h .covered) in
-      let l : 200000 ≤ up n = omega (zed, apart n) in
-      let u : up n ≤ 2000000 = omega (zed, apart n) in
+      let i = in-range (pos coldest) (pos hottest) n (h .covered) in
+      let l : coldest ≤ up n = omega (zed, apart n) in
+      let u : up n ≤ hottest = omega (zed, apart n) in
       record {
         heat = record { above = omega (arith, gas-heat-most b k (up n) l u); below = omega (arith, gas-heat-least b k (up n) l u) };
         content = record { above = omega (arith, content-most b k (up n) l u); below = omega (arith, content-least b k (up n) l u) };
@@ -453,10 +454,10 @@ short-mark (k ∷ fs) = short-kind (kindOf k) fs
 -- a state within the limits, and a step's outputs
 record Steady (st : State) : Type 0 where
   limits : Limits document01 (st .gas)
-  warm : st .mk ≤ 2000000
+  warm : st .mk ≤ hottest
 
 record Modest (o : Out) : Type 0 where
-  warm : o .state .mk ≤ 2000000
+  warm : o .state .mk ≤ hottest
   left : Narrow (o .rests)
   seen : length (countedText (o .seen)) ≤ 58
   few : length (o .seen) < 100
@@ -483,8 +484,8 @@ module _ {s : List ℕ} (ok : Accepted s) where
       let v = gasHeat document01 s g in
       let x = neither (ltZ (p .hydrogen) (pos 0)) (beyond document01 (added (st .gas) p)) (neither (ltZ (p .carbon) (pos 0)) _ (d .atoms) .1) .1 in
       let b : Burns document01 g = record { limits = limits-of document01 (added (st .gas) p) x; is-lean = d .burns } in
-      let l = no-ltZ (a .target) (v 200000) (le-parts (d .reached)) in
-      let u = no-ltZ (v 2000000) (a .target) (le-parts (d .most)) in
+      let l = no-ltZ (a .target) (v coldest) (le-parts (d .reached)) in
+      let u = no-ltZ (v hottest) (a .target) (le-parts (d .most)) in
       let m = temperature-most v (a .target) (d .reached) in
       rw (d .out) (
         record {
@@ -556,11 +557,11 @@ module _ (s : List ℕ) (ch : Charge) (mk : ℤ) (numbers : List ℤ) where
       let k = accepted-of-told s (values-given tt (clear-left (sheetLines s) (startLines document01 ch mk (length numbers) mostSteps mostSteps mostLooks) c)) in
       let q = clear-right (chargeLines document01 ch) (temperatureLines mk) (tail-clear (tail-clear r)) in
       let b = burns-of document01 ch (clear-left (chargeLines document01 ch) (temperatureLines mk) (tail-clear (tail-clear r))) in
-      let i = in-range (pos 200000) (pos 2000000) mk (covered q) in
+      let i = in-range (pos coldest) (pos hottest) mk (covered q) in
       let m = run-modest k (stepsOf (length numbers / stepNumbers) numbers) (startState ch mk) (record { limits = b .limits; warm = omega (zed, apart mk) }) in
       record { outs = m .outs; end = m .end; count = let y = m .count in omega (arith, steps-length (length numbers / stepNumbers) numbers, few r) }
     where
-      covered : Clear (temperatureLines mk) → inZ (pos 200000) (pos 2000000) mk ≡ true
+      covered : Clear (temperatureLines mk) → inZ (pos coldest) (pos hottest) mk ≡ true
       covered (clear h n) = not-false _ h
 
       few : Clear (startLines document01 ch mk (length numbers) mostSteps mostSteps mostLooks) → length numbers ≤ mostNumbers

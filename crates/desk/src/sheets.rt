@@ -130,7 +130,7 @@ fn next_row(end: usize, bytes: &[u8]) -> usize
 
 // Says whether the sheet file that an argument names is accepted.
 pub(crate) fn report(i: usize) {
-    let mut list = [0u32; 5403];
+    let mut list = [0u32; sheet::NUMBERS];
     let mut bytes = io::large_buffer();
     match read(i, &mut bytes) {
         Text::Bytes(n) => {

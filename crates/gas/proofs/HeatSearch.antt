@@ -11,7 +11,8 @@ use lib.Signed.{leZ, _≤ℤ_, _<ℤ_}
 use mir.Syntax.{w64}
 use mir.Val.{SFits}
 use Rattle.signed.specs.Zed.{up, is-self, is-minus, fits-from, zed}
-use Rattle.air.specs.Limits.{lookPlaces}
+use Rattle.rows.specs.Limits.{firstKelvin, lastKelvin}
+use Rattle.air.specs.Limits.{lookPlaces, coldest, hottest}
 use Rattle.air.specs.Halving.{middle, halving, eleven, Halved}
 use Rattle.air.specs.HalvingLaws.{Turn, to-upper, to-lower, Kept, places-are}
 use Rattle.air.specs.Inverse.{temperature, rest, looks}
@@ -55,23 +56,23 @@ module _ {target here next : ℤ} {row : ℕ} (h : HoldsTarget target row here n
 -- ---- the whole search, from 200 to 2,000
 module _ {m : Masses} {s column : List ℕ} (r : Ready m s column) (target : ℤ) where
   -- a target that is the heat at 2,000 K
-  pub at-last : (before after : List ℕ) → target ≡ heatOf m s 2000000 → after ≡ replicate lookPlaces 0 ++ drop lookPlaces before
-      → Searched (heatOf m s) target before (At (record { 0 = pos 2000000 }) (record { 0 = pos 0 })) after
+  pub at-last : (before after : List ℕ) → target ≡ heatOf m s hottest → after ≡ replicate lookPlaces 0 ++ drop lookPlaces before
+      → Searched (heatOf m s) target before (At (record { 0 = pos hottest }) (record { 0 = pos 0 })) after
   unfolding eleven
   at-last before after e h = record {
     answer = rw (top-temperature (heatOf m s) target e, top-rest (heatOf m s) target e) refl;
     list = h ∙ ap (λ (l : List ℕ). eleven l ++ drop lookPlaces before) (sym (no-looks (heatOf m s) target e));
   }
 
-  module _ (low : heatOf m s 200000 ≤ℤ target) (high : target <ℤ heatOf m s 2000000) {row : ℕ} (kept : row ≡ halving (heatFits m s target) 200 2000 .row) where
-    kept-row : Kept (heatFits m s target) 200 2000 (halving (heatFits m s target) 200 2000)
+  module _ (low : heatOf m s coldest ≤ℤ target) (high : target <ℤ heatOf m s hottest) {row : ℕ} (kept : row ≡ halving (heatFits m s target) firstKelvin lastKelvin .row) where
+    kept-row : Kept (heatFits m s target) firstKelvin lastKelvin (halving (heatFits m s target) firstKelvin lastKelvin)
     unfolding heatFits
     kept-row = row-kept (heatOf m s) target low high
 
-    pub row-least : 200 ≤ row
+    pub row-least : firstKelvin ≤ row
     row-least = omega (arith, kept-row .least)
 
-    pub row-most : row < 2000
+    pub row-most : row < lastKelvin
     row-most = omega (arith, kept-row .most)
 
     row-passes : leZ (heatOf m s (1000 * row)) target ≡ true
@@ -110,7 +111,7 @@ module _ {m : Masses} {s column : List ℕ} (r : Ready m s column) (target : ℤ
             rest-is st (w .row) (w .over) target (w .least) (w .most) (w .above) (w .below),
           ) refl
 
-      pub row-searched : {places before after : List ℕ} → Halved (heatFits m s target) 200 2000 0 (replicate lookPlaces 0) row places → after ≡ places ++ drop lookPlaces before
+      pub row-searched : {places before after : List ℕ} → Halved (heatFits m s target) firstKelvin lastKelvin 0 (replicate lookPlaces 0) row places → after ≡ places ++ drop lookPlaces before
           → Searched (heatOf m s) target before (divided target row here next) after
       unfolding heatFits
       row-searched {before} h l = record {

@@ -9,6 +9,7 @@ use lib.Signed.{_≤ℤ_}
 use mir.Syntax.{w64}
 use mir.Val.{SFits}
 use Rattle.signed.specs.Zed.{up, dn, Is, is-pos, is-self, is-add, is-minus, dn-none, fits-from, fits-up, fits-dn, zed}
+use Rattle.rows.specs.Limits.{firstKelvin, lastKelvin}
 use Rattle.rows.specs.Rows.{rowsH}
 use Rattle.sheet.specs.Sheet.{Accepted}
 use Rattle.gas.specs.declared.Gas.{Gas}
@@ -46,7 +47,7 @@ module _ {a b : ℤ} (r : Rises a b) where
   along-is f = rw slope-of refl
 
 -- ---- the heats of a gas that is ready to be read
-module _ {m : Masses} {s column : List ℕ} (r : Ready m s column) (k : ℕ) (l : 200 ≤ k) (u : k < 2000) where
+module _ {m : Masses} {s column : List ℕ} (r : Ready m s column) (k : ℕ) (l : firstKelvin ≤ k) (u : k < lastKelvin) where
   pub next-line : heatOf m s (1000 * (k + 1)) ≡ heatOf m s (1000 * k) +ℤ pos (1000 * heatSlope m s k)
   next-line =
       ap (heatOf m s) {x = 1000 * (k + 1)} {y = 1000 * k + 1000} (omega arith) ∙ heat-line m (r .sized .thin) (r .accepted) k l u 1000 (omega arith)

@@ -8,7 +8,7 @@ use lib.IntN.{ℤ, pos}
 use lib.ListN.{length}
 use Rattle.signed.specs.Zed.{up, outside}
 use Rattle.refusal.specs.Refusals.{Told, gives, refused, Line, _when_, first}
-use Rattle.air.specs.Limits.{lookPlaces}
+use Rattle.air.specs.Limits.{lookPlaces, coldest, hottest}
 use Rattle.air.specs.Inverse.{looks, unreached, Found, found, written}
 use Rattle.sheet.specs.Answers.{sheetLines}
 use Rattle.gas.specs.declared.Charge.{Charge}
@@ -55,7 +55,7 @@ chargeLines w ch = 4 when beyond w ch ∷ 5 when not (lean w (gasOf ch)) ∷ []
 
 -- refusal 6: temperature outside range
 abbrev pub temperatureLines : ℤ → List Line
-temperatureLines mk = 6 when outside (pos 200000) (pos 2000000) mk ∷ []
+temperatureLines mk = 6 when outside (pos coldest) (pos hottest) mk ∷ []
 
 -- 1, 3, 4, 5, 6
 abbrev pub heatOrder : Weights → Charge → ℤ → List ℕ → List Line

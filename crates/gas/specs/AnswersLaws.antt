@@ -11,7 +11,7 @@ use Rattle.refusal.specs.declared.Refusal.{Refusal}
 use Rattle.refusal.specs.declared.Refusal.the-variants.{Plain}
 use Rattle.refusal.specs.Refusals.{Told, gives, refused, Line, _when_, toldBy, first, First, Clear, none, clear}
 use Rattle.refusal.specs.RefusalsLaws.{refusal-given, values-given}
-use Rattle.air.specs.Limits.{lookPlaces}
+use Rattle.air.specs.Limits.{lookPlaces, coldest, hottest}
 use Rattle.air.specs.Inverse.{unreached, found}
 use Rattle.sheet.specs.Sheet.{Accepted}
 use Rattle.sheet.specs.Answers.{sheetLines}
@@ -30,14 +30,14 @@ use Rattle.gas.specs.Search.{Searched}
 accepted-of : (s : List ℕ) (ls : List Line) → Clear (sheetLines s ++ ls) → Accepted s
 accepted-of s ls c = accepted-of-told s (values-given tt (clear-left (sheetLines s) ls c))
 
-covered-of : (mk : ℤ) → Clear (temperatureLines mk) → inZ (pos 200000) (pos 2000000) mk ≡ true
+covered-of : (mk : ℤ) → Clear (temperatureLines mk) → inZ (pos coldest) (pos hottest) mk ≡ true
 covered-of mk (clear h none) = not-false _ h
 
 -- past 1, 3, 4, 5, 6
 pub record Readable (w : Weights) (mk : ℤ) (s : List ℕ) (g : Gas) : Type 0 where
   pub burns : Burns w g
   pub accepted : Accepted s
-  pub covered : inZ (pos 200000) (pos 2000000) mk ≡ true
+  pub covered : inZ (pos coldest) (pos hottest) mk ≡ true
 
 pub readable-of : (w : Weights) (ch : Charge) (mk : ℤ) (s : List ℕ) {g : Gas} → gives g ≡ first (heatOrder w ch mk s) (gasOf ch) → Readable w mk s g
 readable-of w ch mk s e =

@@ -22,7 +22,7 @@ use Rattle.rows.specs.Rows.{rowsH}
 use Rattle.rows.specs.Table.{column, airH}
 use Rattle.rows.specs.TableLaws.{H-grows}
 use Rattle.rows.specs.GrowthLaws.{grows}
-use Rattle.air.specs.Limits.{fifteenDegrees}
+use Rattle.air.specs.Limits.{fifteenDegrees, coldest, hottest}
 use Rattle.air.specs.Readings.{reading, between, airHeat, NeverFalls}
 use Rattle.air.specs.ReadingsLaws.{between-line, grows-on}
 use Rattle.air.specs.InverseLaws.{rises-on}
@@ -36,7 +36,7 @@ use Rattle.gas.specs.HeatLaws.{sum-parts, added-most, air-outweighs, mas
 use Rattle.gas.specs.Sizes.{Sized}
 
 -- ---- a column that never falls is never read lower at a higher temperature
-between-step : {col : ℕ → ℕ} → NeverFalls col → (T : ℕ) → 200000 ≤ T → T < 2000000 → between col T ≤ between col (suc T)
+between-step : {col : ℕ → ℕ} → NeverFalls col → (T : ℕ) → coldest ≤ T → T < hottest → between col T ≤ between col (suc T)
 between-step {col} n T l u =
     let k = T / 1000 in
     let f = T % 1000 in
@@ -52,21 +52,21 @@ between-step {col} n T l u =
       mul-le-mul-right {m = f} {n = suc f} (col (suc k) - col k) (omega arith),
     )
 
-pub between-up : {col : ℕ → ℕ} → NeverFalls col → (T U : ℕ) → 200000 ≤ T → T ≤ U → U ≤ 2000000 → between col T ≤ between col U
+pub between-up : {col : ℕ → ℕ} → NeverFalls col → (T U : ℕ) → coldest ≤ T → T ≤ U → U ≤ hottest → between col T ≤ between col U
 between-up {col} n T U l h u =
     ⊎-elim
     (λ e. rw e (le-refl _))
-    (λ d. grows _≤_ (λ x y z. le-trans) (between col) 200000 2000000 (between-step n) T U l d u)
+    (λ d. grows _≤_ (λ x y z. le-trans) (between col) coldest hottest (between-step n) T U l d u)
     (eq-or-lt-of-le h)
 
-air-up : (T U : ℕ) → 200000 ≤ T → T ≤ U → U ≤ 2000000 → airHeat T ≤ airHeat U
+air-up : (T U : ℕ) → coldest ≤ T → T ≤ U → U ≤ hottest → airHeat T ≤ airHeat U
 unfolding airHeat
 air-up = between-up (grows-on H-grows)
 
-o2-up : {s : List ℕ} → Accepted s → (T U : ℕ) → 200000 ≤ T → T ≤ U → U ≤ 2000000 → between (o2 s) T ≤ between (o2 s) U
+o2-up : {s : List ℕ} → Accepted s → (T U : ℕ) → coldest ≤ T → T ≤ U → U ≤ hottest → between (o2 s) T ≤ between (o2 s) U
 o2-up ok = between-up (record { step = λ k a b. accepted-step ok k a b .o2-up })
 
-air-first : airHeat 200000 ≡ 4776000
+air-first : airHeat coldest ≡ 4776000
 unfolding rowsH column airH reading between airHeat
 air-first = refl
 
@@ -111,12 +111,12 @@ module _ {g : Gas} {s : List ℕ} (b : Burns document01 g) (ok : Accepted s) whe
   taken : ℕ → ℕ
   taken T = up (massesOf document01 g .used) * between (o2 s) T
 
-  brought-is : (T : ℕ) → 200000 ≤ T → T ≤ 2000000 → Is (gasHeat document01 s g T) (brought T) (taken T)
+  brought-is : (T : ℕ) → coldest ≤ T → T ≤ hottest → Is (gasHeat document01 s g T) (brought T) (taken T)
   unfolding heatOf brought taken
   brought-is T l u = sum-parts sized (per-pound ok T l u)
 
   -- from one temperature to a higher one the heat does not fall, and rises by at most that of all the air and of CO2 and H2O from nothing
-  module _ (T U : ℕ) (l : 200000 ≤ T) (h : T ≤ U) (u : U ≤ 2000000) where
+  module _ (T U : ℕ) (l : coldest ≤ T) (h : T ≤ U) (u : U ≤ hottest) where
     never-less : brought T + taken U ≤ brought U + taken T
     never-less =
         ⊎-elim
@@ -139,7 +139,7 @@ module _ {g : Gas} {s : List ℕ} (b : Burns document01 g) (ok : Accepted s) whe
           mul-le-mul (sized .h2o-most) (p .water-most),
         )
 
-  module _ (T : ℕ) (l : 200000 ≤ T) (u : T ≤ 2000000) where
+  module _ (T : ℕ) (l : coldest ≤ T) (u : T ≤ hottest) where
     pub gas-heat-most : up (gasHeat document01 s g T) ≤ 1068080000000000000
     unfolding heatOf
     gas-heat-most = let p = per-pound ok T l u in omega (arith, up-most (sum-parts sized p), added-most sized p)
@@ -149,7 +149,7 @@ module _ {g : Gas} {s : List ℕ} (b : Burns document01 g) (ok : Accepted s) whe
     unfolding heatOf massesOf oxygenUsed lean
     gas-heat-least =
         let p = per-pound ok T l u in
-        let a : 4776000 ≤ airHeat T = omega (arith, air-first, air-up 200000 T (lit≤ tt) l u) in
+        let a : 4776000 ≤ airHeat T = omega (arith, air-first, air-up coldest T (lit≤ tt) l u) in
         let used = 32000 * g .carbon + 8000 * g .hydrogen in
         let k = leZ-true (pos used) (pos (23186 * g .air)) (b .is-lean) in
         let n = b .limits in
@@ -168,7 +168,7 @@ module _ {g : Gas} {s : List ℕ} (b : Burns document01 g) (ok : Accepted s) whe
     pub content-least : dn (contentAbove15 document01 s g T) ≤ 551298400000000000
     content-least =
         ⊎-elim
-        (λ d. omega (arith, content-is, apart (contentAbove15 document01 s g T), gained T fifteenDegrees l d (lit≤ tt), air-15, air-first, air-up 200000 T (lit≤ tt) l u))
+        (λ d. omega (arith, content-is, apart (contentAbove15 document01 s g T), gained T fifteenDegrees l d (lit≤ tt), air-15, air-first, air-up coldest T (lit≤ tt) l u))
         (λ d. omega (arith, content-is, apart (contentAbove15 document01 s g T), never-less fifteenDegrees T (lit≤ tt) d u))
         (below-or-above T)
 

@@ -9,12 +9,15 @@ use native.Mathlib.Omega.{arith}
 use lib.IntN.{ℤ, pos, _+ℤ_, _-ℤ_, _*ℤ_}
 use lib.Signed.{_<ℤ_}
 use Rattle.signed.specs.Zed.{up, dn, Is, is-pos, is-self, is-add, is-minus, is-mul, dn-none, same-by, leZ-true, apart, zed}
+use Rattle.rows.specs.Limits.{firstKelvin, lastKelvin}
 use Rattle.rows.specs.Table.{airH}
 use Rattle.rows.specs.TableLaws.{H-grows, H-most}
+use Rattle.air.specs.Limits.{coldest, hottest}
 use Rattle.air.specs.Readings.{reading, between, airHeat}
 use Rattle.air.specs.ReadingsLaws.{between-rows, between-last, between-whole, between-line}
 use Rattle.air.specs.Inverse.{Straight}
 use Rattle.air.specs.InverseLaws.{mK-rises}
+use Rattle.sheet.specs.Limits.{mostFigure}
 use Rattle.sheet.specs.Sheet.{o2, co2, h2o, rise, Accepted}
 use Rattle.sheet.specs.SheetLaws.{accepted-limit, accepted-step}
 use Rattle.gas.specs.declared.Gas.{Gas}
@@ -60,11 +63,11 @@ module _ {m : Masses} {a o c h : ℕ} (z : Sized m) (p : PerPound a o c h) where
 
 -- ---- the straight line from a whole kelvin to the next
 module _ (m : Masses) (s : List ℕ) (k : ℕ) where
-  pub heat-whole : k ≤ 2000 → heatOf m s (1000 * k) ≡ heatSum m (1000 * airH k) (1000 * o2 s k) (1000 * co2 s k) (1000 * h2o s k)
+  pub heat-whole : k ≤ lastKelvin → heatOf m s (1000 * k) ≡ heatSum m (1000 * airH k) (1000 * o2 s k) (1000 * co2 s k) (1000 * h2o s k)
   unfolding heatOf airHeat
   heat-whole u = rw (between-whole airH k u, between-whole (o2 s) k u, between-whole (co2 s) k u, between-whole (h2o s) k u) refl
 
-module _ (m : Masses) {s : List ℕ} (t : 4 * up (m .used) < m .air) (ok : Accepted s) (k : ℕ) (l : 200 ≤ k) (u : k < 2000) where
+module _ (m : Masses) {s : List ℕ} (t : 4 * up (m .used) < m .air) (ok : Accepted s) (k : ℕ) (l : firstKelvin ≤ k) (u : k < lastKelvin) where
   -- oxygen takes away less than air adds
   oxygen-less : up (m .used) * rise (o2 s) k < m .air * rise airH k
   oxygen-less =
@@ -107,7 +110,7 @@ module _ (m : Masses) {s : List ℕ} (t : 4 * up (m .used) < m .air) (ok : Accep
       (omega (arith, ap (λ (n : ℕ). f * n) slope-parts)))
 
 -- a slope is not below what air alone rises by less four times the oxygen used, and is small
-pub slope-least : (m : Masses) {s : List ℕ} → 4 * up (m .used) < m .air → Accepted s → (k : ℕ) → 200 ≤ k → k < 2000
+pub slope-least : (m : Masses) {s : List ℕ} → 4 * up (m .used) < m .air → Accepted s → (k : ℕ) → firstKelvin ≤ k → k < lastKelvin
     → (m .air - 4 * up (m .used)) * rise airH k ≤ heatSlope m s k
 slope-least m {s} t ok k l u =
     let e : m .air ≡ 4 * up (m .used) + (m .air - 4 * up (m .used)) = omega arith in
@@ -118,12 +121,12 @@ slope-least m {s} t ok k l u =
       ap (λ (n : ℕ). n * rise airH k) e,
     )
 
-pub slope-most : {m : Masses} {s : List ℕ} → Sized m → Accepted s → (k : ℕ) → 200 ≤ k → k < 2000 → heatSlope m s k ≤ 1068080000000000
+pub slope-most : {m : Masses} {s : List ℕ} → Sized m → Accepted s → (k : ℕ) → firstKelvin ≤ k → k < lastKelvin → heatSlope m s k ≤ 1068080000000000
 slope-most {m} {s} z ok k l u =
     let n = accepted-limit ok (suc k) (omega arith) (omega arith) in
     let a : rise airH k ≤ 53789 = omega (arith, H-most (suc k)) in
-    let c : rise (co2 s) k ≤ 200000 = omega (arith, n .co2-most) in
-    let h : rise (h2o s) k ≤ 200000 = omega (arith, n .h2o-most) in
+    let c : rise (co2 s) k ≤ mostFigure = omega (arith, n .co2-most) in
+    let h : rise (h2o s) k ≤ mostFigure = omega (arith, n .h2o-most) in
     let d : dn (m .used) ≡ 0 = omega (zed, z .used-least, apart (m .used)) in
     omega (
       arith,
@@ -151,11 +154,11 @@ pub gas-straight : (w : Weights) → Sound w → {s : List ℕ} → Accepted s �
 gas-straight w s ok g b = heat-straight (massesOf w g) (air-outweighs w s g b) ok
 
 -- the gas heat rises with every mK
-pub gas-rises : (w : Weights) → Sound w → {s : List ℕ} → Accepted s → (g : Gas) → Burns w g → (T : ℕ) → 200000 ≤ T → T < 2000000 → gasHeat w s g T <ℤ gasHeat w s g (suc T)
+pub gas-rises : (w : Weights) → Sound w → {s : List ℕ} → Accepted s → (g : Gas) → Burns w g → (T : ℕ) → coldest ≤ T → T < hottest → gasHeat w s g T <ℤ gasHeat w s g (suc T)
 gas-rises w so ok g b = mK-rises (gas-straight w so ok g b)
 
 -- heat at k + f mK, from the heats at k and at k + 1
-pub gas-between : (w : Weights) → Sound w → {s : List ℕ} → Accepted s → (g : Gas) → Burns w g → (k f : ℕ) → 200 ≤ k → k < 2000 → f ≤ 1000
+pub gas-between : (w : Weights) → Sound w → {s : List ℕ} → Accepted s → (g : Gas) → Burns w g → (k f : ℕ) → firstKelvin ≤ k → k < lastKelvin → f ≤ 1000
     → pos 1000 *ℤ gasHeat w s g (1000 * k + f) ≡ pos (1000 - f) *ℤ gasHeat w s g (1000 * k) +ℤ pos f *ℤ gasHeat w s g (1000 * k + 1000)
 gas-between w so {s} ok g b k f l u h =
     let m = massesOf w g in
@@ -182,11 +185,11 @@ masses-sized g l t = record {
 
 -- ---- bounds of the gas heat over the whole range
 -- a reading is at most a thousand times the greatest figure
-between-most : (col : ℕ → ℕ) (n T : ℕ) → ((k : ℕ) → 200 ≤ k → k ≤ 2000 → col k ≤ n) → 200000 ≤ T → T ≤ 2000000 → between col T ≤ 1000 * n
+between-most : (col : ℕ → ℕ) (n T : ℕ) → ((k : ℕ) → firstKelvin ≤ k → k ≤ lastKelvin → col k ≤ n) → coldest ≤ T → T ≤ hottest → between col T ≤ 1000 * n
 unfolding reading
 between-most col n T h l u =
     ⊎-elim
-    (λ e. omega (arith, between-last col T e, h 2000 (omega arith) (omega arith)))
+    (λ e. omega (arith, between-last col T e, h lastKelvin (omega arith) (omega arith)))
     (λ d.
     let a = col (T / 1000) in
     let b = col (T / 1000 + 1) in
@@ -199,12 +202,12 @@ between-most col n T h l u =
     ))
     (eq-or-lt-of-le u)
 
-module _ {s : List ℕ} (ok : Accepted s) (T : ℕ) (l : 200000 ≤ T) (u : T ≤ 2000000) where
+module _ {s : List ℕ} (ok : Accepted s) (T : ℕ) (l : coldest ≤ T) (u : T ≤ hottest) where
   pub per-pound : PerPound (airHeat T) (between (o2 s) T) (between (co2 s) T) (between (h2o s) T)
   unfolding airHeat
   per-pound = record {
     air-most = between-most airH 53789 T (λ k a b. H-most k) l u;
-    oxygen-most = between-most (o2 s) 200000 T (λ k a b. accepted-limit ok k a b .o2-most) l u;
-    dioxide-most = between-most (co2 s) 200000 T (λ k a b. accepted-limit ok k a b .co2-most) l u;
-    water-most = between-most (h2o s) 200000 T (λ k a b. accepted-limit ok k a b .h2o-most) l u;
+    oxygen-most = between-most (o2 s) mostFigure T (λ k a b. accepted-limit ok k a b .o2-most) l u;
+    dioxide-most = between-most (co2 s) mostFigure T (λ k a b. accepted-limit ok k a b .co2-most) l u;
+    water-most = between-most (h2o s) mostFigure T (λ k a b. accepted-limit ok k a b .h2o-most) l u;
   }

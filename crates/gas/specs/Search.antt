@@ -7,6 +7,7 @@ use lib.IntN.{ℤ, pos, _-ℤ_}
 use lib.ListN.{drop}
 use lib.Signed.{_≤ℤ_, _<ℤ_}
 use Rattle.signed.specs.Zed.{up}
+use Rattle.rows.specs.Limits.{lastKelvin}
 use Rattle.air.specs.Limits.{lookPlaces}
 use Rattle.air.specs.Halving.{eleven}
 use Rattle.air.specs.Inverse.{fits, temperature, rest, looks}
@@ -29,7 +30,7 @@ pub record HoldsTarget (target : ℤ) (row : ℕ) (here next : ℤ) : Type 0 whe
   pub rises : Rises here next
   pub passes : here ≤ℤ target
   pub fails : target <ℤ next
-  pub most : row < 2000
+  pub most : row < lastKelvin
 
 -- the one division: whole mK over the row's kelvin, and the rest
 unfoldable pub divided : ℤ → ℕ → ℤ → ℤ → TemperatureAnswer

@@ -9,6 +9,8 @@ ghost use lib.IntN.{pos, _-ℤ_};
 ghost use mir.Syntax.{w64};
 ghost use mir.Val.{SFits};
 ghost use Rattle.signed.specs.Zed.{up, inZ};
+ghost use Rattle.rows.specs.Limits.{firstKelvin, lastKelvin};
+ghost use Rattle.air.specs.Limits.{coldest, hottest};
 ghost use Rattle.gas.specs.Heat.{heatSum, heatOf};
 ghost use Rattle.gas.specs.Sizes.{Sized, PerPound, Ready, Rises, along as Sizes·along};
 
@@ -22,8 +24,8 @@ fn sum(gas: Masses, air: u64, o2: u64, co2: u64, h2o: u64) -> Heat
 }
 
 // The heat at a whole kelvin.
-pub(crate) fn at_kelvin(gas: Masses, kelvin: u64, sheet: &[u32], air: &[u32; 1801]) -> Heat
-    requires { ⌜ Ready gas (now sheet) (now air) × (200 ≤ kelvin) × (kelvin ≤ 2000) ⌝ }
+pub(crate) fn at_kelvin(gas: Masses, kelvin: u64, sheet: &[u32], air: &[u32; rows::ROWS]) -> Heat
+    requires { ⌜ Ready gas (now sheet) (now air) × (firstKelvin ≤ kelvin) × (kelvin ≤ lastKelvin) ⌝ }
     ensures { λ r. ⌜ r .0 ≡ heatOf gas (now (sheet .entry)) (1000 * kelvin) ⌝ }
 {
     sum(
@@ -44,13 +46,13 @@ fn along(here: Heat, next: Heat, f: u64) -> Heat
 }
 
 // The heat at a temperature; at 2,000,000 mK no row is read but the last.
-pub(crate) fn at_temperature(gas: Masses, t: Millikelvin, sheet: &[u32], air: &[u32; 1801]) -> Heat
-    requires { ⌜ Ready gas (now sheet) (now air) × (inZ (pos 200000) (pos 2000000) (t .0) ≡ true) ⌝ }
+pub(crate) fn at_temperature(gas: Masses, t: Millikelvin, sheet: &[u32], air: &[u32; rows::ROWS]) -> Heat
+    requires { ⌜ Ready gas (now sheet) (now air) × (inZ (pos coldest) (pos hottest) (t .0) ≡ true) ⌝ }
     ensures { λ r. ⌜ r .0 ≡ heatOf gas (now (sheet .entry)) (up (t .0)) ⌝ }
 {
     let mk = signed::to_u64(t.0);
-    if mk == 2000000 {
-        return at_kelvin(gas, 2000, sheet, air);
+    if mk == air::inner::LAST_MK {
+        return at_kelvin(gas, rows::LAST_KELVIN, sheet, air);
     }
     let k = mk / 1000;
     along(

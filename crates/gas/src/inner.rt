@@ -20,7 +20,7 @@ ghost use lib.ListN.{length};
 ghost use Rattle.signed.specs.Zed.{up, inZ};
 ghost use Rattle.rows.specs.Rows.{rowsH};
 ghost use Rattle.refusal.specs.Refusals.{first};
-ghost use Rattle.air.specs.Limits.{lookPlaces};
+ghost use Rattle.air.specs.Limits.{lookPlaces, coldest, hottest};
 ghost use Rattle.sheet.specs.Sheet.{Accepted};
 ghost use Rattle.gas.specs.Burning.{document01, gasOf, beyond as Burning·beyond, Limits, lean as Burning·lean, Burns, fuelMass, totalMass};
 ghost use Rattle.gas.specs.Heat.{gasHeat, contentAbove15, specificContent};
@@ -113,16 +113,16 @@ pub fn total_mass(gas: Gas) -> u64
 }
 
 // The gas heat at a temperature.
-pub fn heat_at(gas: Gas, t: Millikelvin, sheet: &[u32], air: &[u32; 1801]) -> Heat
-    requires { ⌜ Burns document01 gas × Accepted (now sheet) × (now air ≡ rowsH) × (inZ (pos 200000) (pos 2000000) (t .0) ≡ true) ⌝ }
+pub fn heat_at(gas: Gas, t: Millikelvin, sheet: &[u32], air: &[u32; rows::ROWS]) -> Heat
+    requires { ⌜ Burns document01 gas × Accepted (now sheet) × (now air ≡ rowsH) × (inZ (pos coldest) (pos hottest) (t .0) ≡ true) ⌝ }
     ensures { λ r. ⌜ r .0 ≡ gasHeat document01 (now (sheet .entry)) gas (up (t .0)) ⌝ }
 {
     heats::at_temperature(burning::weigh(gas), t, sheet, air)
 }
 
 // The content above 15 °C at a temperature.
-pub fn content_at(gas: Gas, t: Millikelvin, sheet: &[u32], air: &[u32; 1801]) -> Heat
-    requires { ⌜ Burns document01 gas × Accepted (now sheet) × (now air ≡ rowsH) × (inZ (pos 200000) (pos 2000000) (t .0) ≡ true) ⌝ }
+pub fn content_at(gas: Gas, t: Millikelvin, sheet: &[u32], air: &[u32; rows::ROWS]) -> Heat
+    requires { ⌜ Burns document01 gas × Accepted (now sheet) × (now air ≡ rowsH) × (inZ (pos coldest) (pos hottest) (t .0) ≡ true) ⌝ }
     ensures { λ r. ⌜ r .0 ≡ contentAbove15 document01 (now (sheet .entry)) gas (up (t .0)) ⌝ }
 {
     let fifteen = heat_at(gas, Millikelvin(air::FIFTEEN_DEGREES), sheet, air);
@@ -130,8 +130,8 @@ pub fn content_at(gas: Gas, t: Millikelvin, sheet: &[u32], air: &[u32; 1801]) ->
 }
 
 // The specific content at a temperature.
-pub fn specific_at(gas: Gas, t: Millikelvin, sheet: &[u32], air: &[u32; 1801]) -> i64
-    requires { ⌜ Burns document01 gas × Accepted (now sheet) × (now air ≡ rowsH) × (inZ (pos 200000) (pos 2000000) (t .0) ≡ true) ⌝ }
+pub fn specific_at(gas: Gas, t: Millikelvin, sheet: &[u32], air: &[u32; rows::ROWS]) -> i64
+    requires { ⌜ Burns document01 gas × Accepted (now sheet) × (now air ≡ rowsH) × (inZ (pos coldest) (pos hottest) (t .0) ≡ true) ⌝ }
     ensures { λ r. ⌜ r ≡ specificContent document01 (now (sheet .entry)) gas (up (t .0)) ⌝ }
 {
     let content = content_at(gas, t, sheet, air);
@@ -144,17 +144,17 @@ pub fn find(
     target: Heat,
     looks: &mut [u32],
     sheet: &[u32],
-    air: &[u32; 1801],
+    air: &[u32; rows::ROWS],
 ) -> TemperatureAnswer
     requires { ⌜ Burns document01 gas × Accepted (now sheet) × (now air ≡ rowsH) × (lookPlaces ≤ length (now looks)) ⌝ }
     ensures { λ r. ⌜ Inverse [] (gasHeat document01 (now (sheet .entry)) gas) (target .0) (now (looks .entry)) r (now (looks .exit)) ⌝ }
 {
     let masses = burning::weigh(gas);
-    let first = heats::at_kelvin(masses, 200, sheet, air);
+    let first = heats::at_kelvin(masses, rows::FIRST_KELVIN, sheet, air);
     if target.0 < first.0 {
         return TemperatureAnswer::Refused(Refusal::Plain(air::BELOW));
     }
-    let last = heats::at_kelvin(masses, 2000, sheet, air);
+    let last = heats::at_kelvin(masses, rows::LAST_KELVIN, sheet, air);
     if last.0 < target.0 {
         return TemperatureAnswer::Refused(Refusal::Plain(air::ABOVE));
     }
@@ -166,7 +166,7 @@ pub fn gas_heat_judged(
     charge: Charge,
     t: Millikelvin,
     sheet: &[u32],
-    air: &[u32; 1801],
+    air: &[u32; rows::ROWS],
 ) -> HeatAnswer
     requires { ⌜ Accepted (now sheet) × (now air ≡ rowsH) ⌝ }
     ensures { λ r. ⌜ paperHeat r ≡ heatTold document01 charge (t .0) (now (sheet .entry)) ⌝ }
@@ -182,7 +182,7 @@ pub fn content_judged(
     charge: Charge,
     t: Millikelvin,
     sheet: &[u32],
-    air: &[u32; 1801],
+    air: &[u32; rows::ROWS],
 ) -> HeatAnswer
     requires { ⌜ Accepted (now sheet) × (now air ≡ rowsH) ⌝ }
     ensures { λ r. ⌜ paperHeat r ≡ contentTold document01 charge (t .0) (now (sheet .entry)) ⌝ }
@@ -198,7 +198,7 @@ pub fn specific_judged(
     charge: Charge,
     t: Millikelvin,
     sheet: &[u32],
-    air: &[u32; 1801],
+    air: &[u32; rows::ROWS],
 ) -> SpecificAnswer
     requires { ⌜ Accepted (now sheet) × (now air ≡ rowsH) ⌝ }
     ensures { λ r. ⌜ paperSpecific r ≡ specificTold document01 charge (t .0) (now (sheet .entry)) ⌝ }
@@ -215,7 +215,7 @@ pub fn temperature_judged(
     target: Heat,
     looks: &mut [u32],
     sheet: &[u32],
-    air: &[u32; 1801],
+    air: &[u32; rows::ROWS],
 ) -> TemperatureAnswer
     requires { ⌜ Accepted (now sheet) × (now air ≡ rowsH) ⌝ }
     ensures { λ r. ⌜ Temperature document01 charge (target .0) (now (sheet .entry)) (now (looks .entry)) r (now (looks .exit)) ⌝ }

@@ -10,7 +10,8 @@ ghost use mathlib.Core.Path.{_≡_};
 ghost use Prim.Native.Nat.{_≤_, _<_};
 ghost use lib.ListN.{length};
 ghost use lib.Signed.{_≤ℤ_};
-ghost use Rattle.air.specs.Limits.{lookPlaces};
+ghost use Rattle.rows.specs.Limits.{firstKelvin, lastKelvin};
+ghost use Rattle.air.specs.Limits.{lookPlaces, coldest, hottest};
 ghost use Rattle.air.specs.Halving.{Room, Halved};
 ghost use Rattle.gas.specs.Heat.{heatOf};
 ghost use Rattle.gas.specs.Sizes.{Ready};
@@ -28,9 +29,9 @@ fn halve(
     co2: u64,
     h2o: u64,
     sheet: &&[u32],
-    air: &[u32; 1801],
+    air: &[u32; rows::ROWS],
 ) -> u64
-    requires { ⌜ (200 ≤ lo) × (lo < hi) × (hi ≤ 2000) × Ready (masses mass used co2 h2o) (now (now sheet)) (now air) ⌝ }
+    requires { ⌜ (firstKelvin ≤ lo) × (lo < hi) × (hi ≤ lastKelvin) × Ready (masses mass used co2 h2o) (now (now sheet)) (now air) ⌝ }
     requires { ⌜ (length (now looks) ≡ lookPlaces) × Room (heatFits (masses mass used co2 h2o) (now (now sheet)) (target .0)) lo hi at (now looks) ⌝ }
     ensures { λ r. ⌜ Halved (heatFits (masses mass used co2 h2o) (now (now (sheet .entry))) (target .0)) lo hi at (now (looks .entry)) r (now (looks .exit)) ⌝ }
 {
@@ -95,20 +96,20 @@ pub(crate) fn reached(
     looks: &mut [u32],
     gas: Masses,
     sheet: &[u32],
-    air: &[u32; 1801],
+    air: &[u32; rows::ROWS],
 ) -> TemperatureAnswer
-    requires { ⌜ Ready gas (now sheet) (now air) × (lookPlaces ≤ length (now looks)) × (last .0 ≡ heatOf gas (now sheet) 2000000) ⌝ }
-    requires { ⌜ (heatOf gas (now sheet) 200000 ≤ℤ target .0) × (target .0 ≤ℤ last .0) ⌝ }
+    requires { ⌜ Ready gas (now sheet) (now air) × (lookPlaces ≤ length (now looks)) × (last .0 ≡ heatOf gas (now sheet) hottest) ⌝ }
+    requires { ⌜ (heatOf gas (now sheet) coldest ≤ℤ target .0) × (target .0 ≤ℤ last .0) ⌝ }
     ensures { λ r. ⌜ Searched (heatOf gas (now (sheet .entry))) (target .0) (now (looks .entry)) r (now (looks .exit)) ⌝ }
 {
     let mut eleven = [0u32; air::LOOK_PLACES];
     if last.0 <= target.0 {
         air::inner::lay(&eleven, looks);
-        return TemperatureAnswer::At(Millikelvin(2000000), Heat(0));
+        return TemperatureAnswer::At(Millikelvin(air::HOTTEST), Heat(0));
     }
     let row = halve(
-        200,
-        2000,
+        rows::FIRST_KELVIN,
+        rows::LAST_KELVIN,
         target,
         &mut eleven,
         0,

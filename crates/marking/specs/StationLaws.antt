@@ -9,6 +9,7 @@ use Rattle.signed.specs.Zed.{up, in-range, apart, zed}
 use Rattle.refusal.specs.Refusals.{gives}
 use Rattle.refusal.specs.RefusalsLaws.{values-given}
 use Rattle.refusal.specs.OrdersLaws.{clear-order, given}
+use Rattle.air.specs.Limits.{coldest, hottest}
 use Rattle.gas.specs.declared.Charge.{Charge}
 use Rattle.gas.specs.declared.Gas.{Gas}
 use Rattle.gas.specs.Burning.{document01, gasOf, totalMass}
@@ -48,9 +49,9 @@ module _ {a b c : ℤ} (m : Small a b c) where
 -- ---- the whole numbers of a station that is not refused are such
 pub readable-small : {mk : ℤ} {s : List ℕ} {g : Gas} → Readable document01 mk s g → Small mk (specificContent document01 s g (up mk)) (pos (totalMass document01 g))
 readable-small {mk} {s} {g} h =
-    let i = in-range (pos 200000) (pos 2000000) mk (h .covered) in
-    let l : 200000 ≤ up mk = omega (zed, apart mk) in
-    let u : up mk ≤ 2000000 = omega (zed, apart mk) in
+    let i = in-range (pos coldest) (pos hottest) mk (h .covered) in
+    let l : coldest ≤ up mk = omega (zed, apart mk) in
+    let u : up mk ≤ hottest = omega (zed, apart mk) in
     let b = h .burns in
     let k = h .accepted in
     record {

@@ -26,7 +26,7 @@ pub fn station_judged(
     charge: Charge,
     t: Millikelvin,
     sheet: &[u32],
-    air: &[u32; 1801],
+    air: &[u32; rows::ROWS],
 ) -> NumbersAnswer
     requires { ⌜ Accepted (now sheet) × (now air ≡ rowsH) ⌝ }
     ensures { λ r. ⌜ paperNumbers r ≡ numbersTold charge (t .0) (now (sheet .entry)) ⌝ }

@@ -5,11 +5,12 @@ use Prim.Native.Nat.{ℕ, _-_}
 use lib.Dec.{ltb}
 use lib.IntN.{ℤ, pos}
 use lib.ListN.{getD}
+use Rattle.rows.specs.Limits.{firstKelvin}
 use Rattle.rows.specs.Rows.{rowsH, rowsCp, rowsPsi, rowsH15}
 
 -- the figure of a whole kelvin in a column that starts at 200, and 0 where the column has none
 unfoldable pub column : List ℕ → ℕ → ℕ
-column rows k = cond (ltb k 200) 0 (getD rows (k - 200) 0)
+column rows k = cond (ltb k firstKelvin) 0 (getD rows (k - firstKelvin) 0)
 
 -- the columns H, Cp, psi and H15
 unfoldable pub airH : ℕ → ℕ
@@ -22,4 +23,4 @@ unfoldable pub airPsi : ℕ → ℕ
 airPsi k = column rowsPsi k
 
 unfoldable pub airH15 : ℕ → ℤ
-airH15 k = getD rowsH15 (k - 200) (pos 0)
+airH15 k = getD rowsH15 (k - firstKelvin) (pos 0)

@@ -3,7 +3,7 @@
 ghost use mathlib.Core.Path.{_≡_};
 ghost use Rattle.rows.specs.Rows.{rowsH, rowsCp, rowsPsi, rowsH15};
 
-const H: [u32; 1801] = [
+const H: [u32; crate::ROWS] = [
     4776,
     4800,
     4824,
@@ -1807,7 +1807,7 @@ const H: [u32; 1801] = [
     53789,
 ];
 
-const CP: [u32; 1801] = [
+const CP: [u32; crate::ROWS] = [
     2393,
     2393,
     2393,
@@ -3611,7 +3611,7 @@ const CP: [u32; 1801] = [
     2986,
 ];
 
-const PSI: [u32; 1801] = [
+const PSI: [u32; crate::ROWS] = [
     95264,
     95340,
     95415,
@@ -5415,7 +5415,7 @@ const PSI: [u32; 1801] = [
     133151,
 ];
 
-const H15: [i32; 1801] = [
+const H15: [i32; crate::ROWS] = [
     -2111,
     -2087,
     -2063,
@@ -7220,28 +7220,28 @@ const H15: [i32; 1801] = [
 ];
 
 // The column H of Table 1, in hundredths of C.H.U./lb, from 200 K on.
-pub fn heat_column() -> [u32; 1801]
+pub fn heat_column() -> [u32; crate::ROWS]
     ensures { λ r. ⌜ r ≡ rowsH ⌝ }
 {
     H
 }
 
 // The column Cp of Table 1, in ten-thousandths of C.H.U./lb °K, from 200 K on.
-pub fn cp_column() -> [u32; 1801]
+pub fn cp_column() -> [u32; crate::ROWS]
     ensures { λ r. ⌜ r ≡ rowsCp ⌝ }
 {
     CP
 }
 
 // The column psi of Table 1, in ten-thousandths, from 200 K on.
-pub fn psi_column() -> [u32; 1801]
+pub fn psi_column() -> [u32; crate::ROWS]
     ensures { λ r. ⌜ r ≡ rowsPsi ⌝ }
 {
     PSI
 }
 
 // The column H15 of Table 1, in hundredths of C.H.U./lb above 15 °C, from 200 K on.
-pub fn h15_column() -> [i32; 1801]
+pub fn h15_column() -> [i32; crate::ROWS]
     ensures { λ r. ⌜ r ≡ rowsH15 ⌝ }
 {
     H15

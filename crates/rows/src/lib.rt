@@ -5,7 +5,13 @@ pub mod columns;
 
 ghost use mathlib.Core.Path.{_≡_};
 ghost use Prim.Native.Nat.{_≤_, _<_};
+ghost use Rattle.rows.specs.Limits.{firstKelvin, lastKelvin};
 ghost use Rattle.rows.specs.Table.{column};
+
+// the first and the last whole kelvin, and the rows from one to the other
+pub const FIRST_KELVIN: u64 = 200;
+pub const LAST_KELVIN: u64 = 2000;
+pub const ROWS: usize = (LAST_KELVIN - FIRST_KELVIN + 1) as usize;
 
 fn wide(x: u32) -> u64
     ensures { λ r. ⌜ (r ≡ x) × (r < 4294967296) ⌝ }
@@ -14,9 +20,9 @@ fn wide(x: u32) -> u64
 }
 
 // The figure of a whole kelvin in any column.
-pub fn figure(rows: &[u32; 1801], kelvin: u64) -> u64
-    requires { ⌜ (200 ≤ kelvin) × (kelvin ≤ 2000) ⌝ }
+pub fn figure(rows: &[u32; ROWS], kelvin: u64) -> u64
+    requires { ⌜ (firstKelvin ≤ kelvin) × (kelvin ≤ lastKelvin) ⌝ }
     ensures { λ r. ⌜ (r ≡ column (now (rows .entry)) kelvin) × (r < 4294967296) ⌝ }
 {
-    wide(rows[(kelvin - 200) as usize])
+    wide(rows[(kelvin - FIRST_KELVIN) as usize])
 }

@@ -8,6 +8,7 @@ use borrow.Author.Tests.{eq-eqb, ne-eqb}
 use Rattle.text.specs.Fold.{run}
 use Rattle.refusal.specs.declared.Refusal.the-variants.{Plain, At}
 use Rattle.refusal.specs.Refusals.{first}
+use Rattle.sheet.specs.Limits.{sheetNumbers}
 use Rattle.sheet.specs.declared.SheetAnswer.the-variants.{Good, Refused}
 use Rattle.sheet.specs.declared.machine.Place.{Place}
 use Rattle.sheet.specs.declared.machine.State.{State}
@@ -18,11 +19,11 @@ use Rattle.sheet.specs.HeldLaws.{sound, same-state}
 use Rattle.sheet.specs.FirstBadLaws.{not-whole-bad}
 use Rattle.sheet.specs.FormLaws.{form-of}
 
-pub wrong-length : (text l : List ℕ) → (length l ≡ 5403 → ⊥) → SheetRead text l (Refused (Plain 1)) l
-wrong-length text l n = record { form = form-of text; told = rw (ne-eqb (length l) 5403 n) refl; list = refl }
+pub wrong-length : (text l : List ℕ) → (length l ≡ sheetNumbers → ⊥) → SheetRead text l (Refused (Plain 1)) l
+wrong-length text l n = record { form = form-of text; told = rw (ne-eqb (length l) sheetNumbers n) refl; list = refl }
 
 -- numbers is the reader's own list before the text was read into it, and after is that list then
-module _ (text l numbers after : List ℕ) (n : length l ≡ 5403) (m : length numbers ≡ 5403) {from : Place} {s : State} {w : Bool} (first : Going from ≡ start)
+module _ (text l numbers after : List ℕ) (n : length l ≡ sheetNumbers) (m : length numbers ≡ sheetNumbers) {from : Place} {s : State} {w : Bool} (first : Going from ≡ start)
     (fills : filled s after ≡ run fillByte (filled (Going from) numbers) text) (tested : w ≡ wholeSheet s) where
   fills-is : filled s after ≡ run fillByte (filled start numbers) text
   fills-is = fills ∙ ap (λ (x : State). run fillByte (filled x numbers) text) first
@@ -38,13 +39,13 @@ module _ (text l numbers after : List ℕ) (n : length l ≡ 5403) (m : length n
       let e : later ≡ run fillByte (filled start numbers) text .list = c ∙ ap (λ (x : Filled). x .list) fills-is in
       record {
         form = sheetOf later (rw e (sound text numbers m (sym test-is ∙ t)));
-        told = rw (eq-eqb (length l) 5403 n) refl;
+        told = rw (eq-eqb (length l) sheetNumbers n) refl;
         list = refl;
       }
 
   pub bad-row : {r : ℕ} → w ≡ false → r ≡ rowOf s → SheetRead text l (Refused (At 2 r)) l
   bad-row {r} t e = record {
     form = noSheet r (rw (e, state-is) (not-whole-bad text (sym test-is ∙ t)));
-    told = rw (eq-eqb (length l) 5403 n) refl;
+    told = rw (eq-eqb (length l) sheetNumbers n) refl;
     list = refl;
   }

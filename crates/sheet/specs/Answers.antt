@@ -6,6 +6,7 @@ use mathlib.Core.List.{List, [], _∷_}
 use Prim.Native.Nat.{ℕ}
 use lib.Dec.{ltb}
 use Rattle.refusal.specs.Refusals.{Told, gives, refused, Line, _when_, _at-place_when_, first}
+use Rattle.rows.specs.Limits.{tableRows}
 use Rattle.sheet.specs.declared.SheetAnswer.{SheetAnswer}
 use Rattle.sheet.specs.declared.SheetAnswer.the-variants.{Good, Refused}
 use Rattle.sheet.specs.Text.{Sheet, FirstBad}
@@ -53,7 +54,7 @@ pub record SheetRead (text before : List ℕ) (answer : SheetAnswer) (later : Li
 
 -- refusals 1 and 3, in the paper's order: the first lines of every call that takes a sheet list
 abbrev pub sheetLines : List ℕ → List Line
-sheetLines s = 1 when notLong s ∷ 3 at-place firstBadRow s when ltb (firstBadRow s) 1801 ∷ []
+sheetLines s = 1 when notLong s ∷ 3 at-place firstBadRow s when ltb (firstBadRow s) tableRows ∷ []
 
 -- the whole of a judgement
 abbrev pub judgeTold : List ℕ → Told (Unit {0})

@@ -9,8 +9,10 @@ use native.Mathlib.Omega.{arith}
 use lib.ListN.{length, getD}
 use borrow.Author.Tests.{eq-eqb, ne-eqb}
 use Rattle.refusal.specs.Refusals.{refusesAt}
+use Rattle.rows.specs.Limits.{firstKelvin, lastKelvin, tableRows}
 use Rattle.rows.specs.Table.{airH}
 use Rattle.rows.specs.TableLaws.{H-grows, H-most, H-first}
+use Rattle.sheet.specs.Limits.{mostFigure, sheetNumbers}
 use Rattle.sheet.specs.Answers.{judgeTold}
 use Rattle.sheet.specs.AnswersLaws.{told-row}
 use Rattle.sheet.specs.Sheet.{o2, co2, h2o, overLimit, rise, breaksStep, badRow, Accepted}
@@ -36,22 +38,22 @@ laid-at gas (suc n) k (suc i) j h g =
     let q : suc k + i ≡ k + suc i = omega arith in
     rw e (laid-at gas n (suc k) i j (omega arith) g ∙ ap (gas j) q)
 
-module _ (gas : ℕ → ℕ → ℕ) (k : ℕ) (l : 200 ≤ k) (u : k ≤ 2000) where
-  at-kelvin : (i j : ℕ) → j < 3 → i ≡ 3 * (k - 200) + j → getD (laid gas) i 0 ≡ gas j k
+module _ (gas : ℕ → ℕ → ℕ) (k : ℕ) (l : firstKelvin ≤ k) (u : k ≤ lastKelvin) where
+  at-kelvin : (i j : ℕ) → j < 3 → i ≡ 3 * (k - firstKelvin) + j → getD (laid gas) i 0 ≡ gas j k
   unfolding laid
-  at-kelvin i j h e = let q : 200 + (k - 200) ≡ k = omega arith in rw e (laid-at gas 1801 200 (k - 200) j (omega arith) h ∙ ap (gas j) q)
+  at-kelvin i j h e = let q : firstKelvin + (k - firstKelvin) ≡ k = omega arith in rw e (laid-at gas tableRows firstKelvin (k - firstKelvin) j (omega arith) h ∙ ap (gas j) q)
 
   laid-o2 : o2 (laid gas) k ≡ gas 0 k
   unfolding o2
-  laid-o2 = at-kelvin (3 * (k - 200)) 0 (omega arith) (omega arith)
+  laid-o2 = at-kelvin (3 * (k - firstKelvin)) 0 (omega arith) (omega arith)
 
   laid-co2 : co2 (laid gas) k ≡ gas 1 k
   unfolding co2
-  laid-co2 = at-kelvin (3 * (k - 200) + 1) 1 (omega arith) refl
+  laid-co2 = at-kelvin (3 * (k - firstKelvin) + 1) 1 (omega arith) refl
 
   laid-h2o : h2o (laid gas) k ≡ gas 2 k
   unfolding h2o
-  laid-h2o = at-kelvin (3 * (k - 200) + 2) 2 (omega arith) refl
+  laid-h2o = at-kelvin (3 * (k - firstKelvin) + 2) 2 (omega arith) refl
 
 -- ---- a row of it is good where the columns keep the limit, and the step rule from the row before
 pub record Steady (gas : ℕ → ℕ → ℕ) (k : ℕ) : Type 0 where
@@ -59,16 +61,16 @@ pub record Steady (gas : ℕ → ℕ → ℕ) (k : ℕ) : Type 0 where
   pub slow : rise (gas 0) k ≤ 4 * rise airH k
 
 pub record Small (gas : ℕ → ℕ → ℕ) (k : ℕ) : Type 0 where
-  pub most : (j : ℕ) → j < 3 → gas j k ≤ 200000
+  pub most : (j : ℕ) → j < 3 → gas j k ≤ mostFigure
 
-small-no : (gas : ℕ → ℕ → ℕ) (k : ℕ) → 200 ≤ k → k ≤ 2000 → Small gas k → overLimit (laid gas) k ≡ false
+small-no : (gas : ℕ → ℕ → ℕ) (k : ℕ) → firstKelvin ≤ k → k ≤ lastKelvin → Small gas k → overLimit (laid gas) k ≡ false
 small-no gas k l u h = over-no (laid gas) k record {
   o2-most = rw (laid-o2 gas k l u) (h .most 0 (omega arith));
   co2-most = rw (laid-co2 gas k l u) (h .most 1 (omega arith));
   h2o-most = rw (laid-h2o gas k l u) (h .most 2 (omega arith));
 }
 
-steady-no : (gas : ℕ → ℕ → ℕ) (k : ℕ) → 200 ≤ k → k < 2000 → Steady gas k → breaksStep (laid gas) k ≡ false
+steady-no : (gas : ℕ → ℕ → ℕ) (k : ℕ) → firstKelvin ≤ k → k < lastKelvin → Steady gas k → breaksStep (laid gas) k ≡ false
 steady-no gas k l u h = step-kept (laid gas) k record {
   o2-up = omega (arith, laid-o2 gas k l (omega arith), laid-o2 gas (suc k) (omega arith) u, h .up 0 (omega arith));
   co2-up = omega (arith, laid-co2 gas k l (omega arith), laid-co2 gas (suc k) (omega arith) u, h .up 1 (omega arith));
@@ -76,18 +78,18 @@ steady-no gas k l u h = step-kept (laid gas) k record {
   o2-rise = omega (arith, laid-o2 gas k l (omega arith), laid-o2 gas (suc k) (omega arith) u, h .slow);
 }
 
-row-good : (gas : ℕ → ℕ → ℕ) (r : ℕ) → r < 1801 → ((k : ℕ) → 200 ≤ k → k ≤ 200 + r → Small gas k) → ((k : ℕ) → 200 ≤ k → k < 200 + r → Steady gas k) → badRow (laid gas) r ≡ false
-row-good gas zero h f g = small-no gas 200 (omega arith) (omega arith) (f 200 (omega arith) (omega arith))
+row-good : (gas : ℕ → ℕ → ℕ) (r : ℕ) → r < tableRows → ((k : ℕ) → firstKelvin ≤ k → k ≤ firstKelvin + r → Small gas k) → ((k : ℕ) → firstKelvin ≤ k → k < firstKelvin + r → Steady gas k) → badRow (laid gas) r ≡ false
+row-good gas zero h f g = small-no gas firstKelvin (omega arith) (omega arith) (f firstKelvin (omega arith) (omega arith))
 row-good gas (suc r) h f g =
-    let a : overLimit (laid gas) (200 + suc r) ≡ false = small-no gas (200 + suc r) (omega arith) (omega arith) (f (200 + suc r) (omega arith) (omega arith)) in
-    let b : breaksStep (laid gas) (200 + r) ≡ false = steady-no gas (200 + r) (omega arith) (omega arith) (g (200 + r) (omega arith) (omega arith)) in
+    let a : overLimit (laid gas) (firstKelvin + suc r) ≡ false = small-no gas (firstKelvin + suc r) (omega arith) (omega arith) (f (firstKelvin + suc r) (omega arith) (omega arith)) in
+    let b : breaksStep (laid gas) (firstKelvin + r) ≡ false = steady-no gas (firstKelvin + r) (omega arith) (omega arith) (g (firstKelvin + r) (omega arith) (omega arith)) in
     rw (a, b) refl
 
-laid-long : (gas : ℕ → ℕ → ℕ) → length (laid gas) ≡ 5403
+laid-long : (gas : ℕ → ℕ → ℕ) → length (laid gas) ≡ sheetNumbers
 unfolding laid
-laid-long gas = laid-length gas 1801 200
+laid-long gas = laid-length gas tableRows firstKelvin
 
-pub laid-accepted : (gas : ℕ → ℕ → ℕ) → ((k : ℕ) → 200 ≤ k → k ≤ 2000 → Small gas k) → ((k : ℕ) → 200 ≤ k → k < 2000 → Steady gas k) → Accepted (laid gas)
+pub laid-accepted : (gas : ℕ → ℕ → ℕ) → ((k : ℕ) → firstKelvin ≤ k → k ≤ lastKelvin → Small gas k) → ((k : ℕ) → firstKelvin ≤ k → k < lastKelvin → Steady gas k) → Accepted (laid gas)
 laid-accepted gas f g = record { long = laid-long gas; noBadRow = λ r h. row-good gas r h (λ k l u. f k l (omega arith)) (λ k l u. g k l (omega arith)) }
 
 -- ---- flat sheets
@@ -101,17 +103,17 @@ level-up a b c zero k m = le-refl a
 level-up a b c (suc zero) k m = le-refl b
 level-up a b c (suc (suc j)) k m = le-refl c
 
-pub flat-accepted : (a b c : ℕ) → a ≤ 200000 → b ≤ 200000 → c ≤ 200000 → Accepted (flat a b c)
+pub flat-accepted : (a b c : ℕ) → a ≤ mostFigure → b ≤ mostFigure → c ≤ mostFigure → Accepted (flat a b c)
 flat-accepted a b c p q r =
     laid-accepted (level a b c)
-    (λ k l u. record { most = λ j h. level-most a b c j k 200000 p q r })
+    (λ k l u. record { most = λ j h. level-most a b c j k mostFigure p q r })
     (λ k l u. record { up = λ j h. level-up a b c j k (suc k); slow = omega arith })
 
 -- ---- four times air
-air-from : (k : ℕ) → 200 ≤ k → k ≤ 2000 → airH 200 ≤ airH k
-air-from k l u = ⊎-elim (λ e. rw e (le-refl _)) (λ h. le-of-lt (grows _<_ (λ x y z. lt-trans) airH 200 2000 H-grows 200 k (le-refl _) h u)) (eq-or-lt-of-le l)
+air-from : (k : ℕ) → firstKelvin ≤ k → k ≤ lastKelvin → airH firstKelvin ≤ airH k
+air-from k l u = ⊎-elim (λ e. rw e (le-refl _)) (λ h. le-of-lt (grows _<_ (λ x y z. lt-trans) airH firstKelvin lastKelvin H-grows firstKelvin k (le-refl _) h u)) (eq-or-lt-of-le l)
 
-steepest-steady : (k : ℕ) → 200 ≤ k → k < 2000 → Steady steepest k
+steepest-steady : (k : ℕ) → firstKelvin ≤ k → k < lastKelvin → Steady steepest k
 steepest-steady k l u = record { up = up; slow = omega (arith, air-from k l (omega arith), H-grows k l u) }
   where
     up : (j : ℕ) → j < 3 → steepest j k ≤ steepest j (suc k)
@@ -121,7 +123,7 @@ steepest-steady k l u = record { up = up; slow = omega (arith, air-from k l (ome
 steepest-small : (k : ℕ) → Small steepest k
 steepest-small k = record { most = most }
   where
-    most : (j : ℕ) → j < 3 → steepest j k ≤ 200000
+    most : (j : ℕ) → j < 3 → steepest j k ≤ mostFigure
     most zero h = omega (arith, H-most k, H-first)
     most (suc j) h = omega arith
 
@@ -129,7 +131,7 @@ pub steepest-accepted : Accepted (laid steepest)
 steepest-accepted = laid-accepted steepest (λ k l u. steepest-small k) steepest-steady
 
 -- ---- and one more
-module _ (m : ℕ) (l : 200 < m) (u : m ≤ 2000) where
+module _ (m : ℕ) (l : firstKelvin < m) (u : m ≤ lastKelvin) where
   same-elsewhere : (j k : ℕ) → (k ≡ m → ⊥) → oneMore m j k ≡ steepest j k
   same-elsewhere zero k n = rw (ne-eqb k m n) refl
   same-elsewhere (suc j) k n = refl
@@ -137,10 +139,10 @@ module _ (m : ℕ) (l : 200 < m) (u : m ≤ 2000) where
   one-more-there : oneMore m 0 m ≡ steepest 0 m + 1
   one-more-there = rw (eq-eqb m m refl) refl
 
-  small-before : (k : ℕ) → 200 ≤ k → k < m → Small (oneMore m) k
+  small-before : (k : ℕ) → firstKelvin ≤ k → k < m → Small (oneMore m) k
   small-before k a b = record { most = λ j h. rw (same-elsewhere j k (omega arith)) (steepest-small k .most j h) }
 
-  steady-before : (k : ℕ) → 200 ≤ k → suc k < m → Steady (oneMore m) k
+  steady-before : (k : ℕ) → firstKelvin ≤ k → suc k < m → Steady (oneMore m) k
   steady-before k a b =
       let s = steepest-steady k a (omega arith) in
       record {
@@ -153,17 +155,17 @@ module _ (m : ℕ) (l : 200 < m) (u : m ≤ 2000) where
   too-steep k e =
       let g = H-grows k (omega arith) (omega arith) in
       let f = air-from k (omega arith) (omega arith) in
-      let a : o2 (laid (oneMore m)) k ≡ 4 * (airH k - airH 200) = laid-o2 (oneMore m) k (omega arith) (omega arith) ∙ same-elsewhere 0 k (omega arith) in
-      let b : o2 (laid (oneMore m)) (suc k) ≡ 4 * (airH (suc k) - airH 200) + 1 = subst (λ (x : ℕ). o2 (laid (oneMore m)) x ≡ 4 * (airH x - airH 200) + 1) (sym e) (laid-o2 (oneMore m) m (omega arith) u ∙ one-more-there) in
+      let a : o2 (laid (oneMore m)) k ≡ 4 * (airH k - airH firstKelvin) = laid-o2 (oneMore m) k (omega arith) (omega arith) ∙ same-elsewhere 0 k (omega arith) in
+      let b : o2 (laid (oneMore m)) (suc k) ≡ 4 * (airH (suc k) - airH firstKelvin) + 1 = subst (λ (x : ℕ). o2 (laid (oneMore m)) x ≡ 4 * (airH x - airH firstKelvin) + 1) (sym e) (laid-o2 (oneMore m) m (omega arith) u ∙ one-more-there) in
       steep-breaks (laid (oneMore m)) k (omega arith)
 
-  row-bad : (r : ℕ) → 200 + r ≡ m → badRow (laid (oneMore m)) r ≡ true
+  row-bad : (r : ℕ) → firstKelvin + r ≡ m → badRow (laid (oneMore m)) r ≡ true
   row-bad zero e = absurd (omega arith)
-  row-bad (suc r) e = let t = too-steep (200 + r) (omega arith) in rw t (or-true (overLimit (laid (oneMore m)) (200 + suc r)))
+  row-bad (suc r) e = let t = too-steep (firstKelvin + r) (omega arith) in rw t (or-true (overLimit (laid (oneMore m)) (firstKelvin + suc r)))
 
-  pub one-more-refused : judgeTold (laid (oneMore m)) ≡ refusesAt 3 (m - 200)
+  pub one-more-refused : judgeTold (laid (oneMore m)) ≡ refusesAt 3 (m - firstKelvin)
   one-more-refused =
-      told-row (laid (oneMore m)) (m - 200) (laid-long (oneMore m))
-      (first-bad-found (laid (oneMore m)) (m - 200) (omega arith) (row-bad (m - 200) (omega arith))
+      told-row (laid (oneMore m)) (m - firstKelvin) (laid-long (oneMore m))
+      (first-bad-found (laid (oneMore m)) (m - firstKelvin) (omega arith) (row-bad (m - firstKelvin) (omega arith))
       (λ i h. row-good (oneMore m) i (omega arith) (λ k a b. small-before k a (omega arith)) (λ k a b. steady-before k a (omega arith))))
       (omega arith)

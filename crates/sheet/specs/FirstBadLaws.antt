@@ -8,11 +8,13 @@ use native.Mathlib.Omega.{arith}
 use lib.Dec.{ltb, eqb}
 use lib.ListN.{length, getD, replicate, length-replicate}
 use borrow.Author.Tests.{eqb-false, ltb-true, ltb-false, eq-eqb, ne-eqb}
+use Rattle.rows.specs.Limits.{firstKelvin, tableRows}
 use Rattle.text.specs.Fold.{run}
 use Rattle.text.specs.FoldLaws.{run-append, Runs, and-then}
 use Rattle.text.specs.Decimal.{decimal}
 use Rattle.text.specs.DecimalLaws.{one-digit, last-digit, by-digits}
 use Rattle.text.specs.ReadingLaws.{spelled}
+use Rattle.sheet.specs.Limits.{sheetNumbers}
 use Rattle.sheet.specs.declared.machine.Place.{Place}
 use Rattle.sheet.specs.declared.machine.State.{State}
 use Rattle.sheet.specs.declared.machine.State.the-variants.{Going, Bad}
@@ -38,40 +40,40 @@ on g k = let h = k (g .left) in record { by = g .by ++ h .by; left = h .left; ru
 one : (s : Filled) (xs : List ℕ) (p : Place) (m : List ℕ) → Runs fillByte s xs (filled (Going p) m) → Goes s p
 one s xs p m r = record { by = xs; left = m; runs = r }
 
-module _ (r : ℕ) (h : r < 1801) where
+module _ (r : ℕ) (h : r < tableRows) where
   number-on : (f v : ℕ) (s : Bool) (a b : ℕ) (l : List ℕ) → (f ≡ 0 → ⊥) → (s ≡ false → v ≡ 0) → Goes (filled (Going (place r f v s a b)) l) (place r f v true a b)
   number-on f v true a b l hf hs = here (place r f v true a b) l
   number-on f v false a b l hf hs =
       rw (hs refl) (one _ (decimal 0) (place r f 0 true a b) l (number-run r f a b 0 l h hf (omega arith)))
 
   -- one digit of the kelvin more
-  kelvin-digit : (v d a b : ℕ) (l : List ℕ) → d < 10 → begins (200 + r) (10 * v + d) ≡ true → Goes (filled (Going (place r 0 v true a b)) l) (place r 0 (10 * v + d) true a b)
+  kelvin-digit : (v d a b : ℕ) (l : List ℕ) → d < 10 → begins (firstKelvin + r) (10 * v + d) ≡ true → Goes (filled (Going (place r 0 v true a b)) l) (place r 0 (10 * v + d) true a b)
   unfolding takesDigit withDigit
   kelvin-digit v d a b l hd e = one _ ((48 + d) ∷ []) (place r 0 (10 * v + d) true a b) l (record { to = digit-step (place r 0 v true a b) d l h hd e })
 
-  kelvin-up : (v w a b : ℕ) (l : List ℕ) → v ≡ w / 10 → begins (200 + r) w ≡ true → Goes (filled (Going (place r 0 v true a b)) l) (place r 0 w true a b)
+  kelvin-up : (v w a b : ℕ) (l : List ℕ) → v ≡ w / 10 → begins (firstKelvin + r) w ≡ true → Goes (filled (Going (place r 0 v true a b)) l) (place r 0 w true a b)
   kelvin-up v w a b l e k =
       let q : 10 * v + w % 10 ≡ w = omega arith in
       subst (λ (x : ℕ). Goes (filled (Going (place r 0 v true a b)) l) (place r 0 x true a b)) q (kelvin-digit v (w % 10) a b l (omega arith) (rw q k))
 
-  up-1 : (v a b : ℕ) (l : List ℕ) → v ≡ (200 + r) / 10 → Goes (filled (Going (place r 0 v true a b)) l) (place r 0 (200 + r) true a b)
-  up-1 v a b l e = kelvin-up v (200 + r) a b l e (begins-0 (200 + r) (200 + r) (omega arith) refl)
+  up-1 : (v a b : ℕ) (l : List ℕ) → v ≡ (firstKelvin + r) / 10 → Goes (filled (Going (place r 0 v true a b)) l) (place r 0 (firstKelvin + r) true a b)
+  up-1 v a b l e = kelvin-up v (firstKelvin + r) a b l e (begins-0 (firstKelvin + r) (firstKelvin + r) (omega arith) refl)
 
-  up-2 : (v a b : ℕ) (l : List ℕ) → v ≡ (200 + r) / 100 → Goes (filled (Going (place r 0 v true a b)) l) (place r 0 (200 + r) true a b)
-  up-2 v a b l e = on (kelvin-up v ((200 + r) / 10) a b l (omega arith) (begins-1 (200 + r) ((200 + r) / 10) (omega arith) refl)) (λ m. up-1 ((200 + r) / 10) a b m refl)
+  up-2 : (v a b : ℕ) (l : List ℕ) → v ≡ (firstKelvin + r) / 100 → Goes (filled (Going (place r 0 v true a b)) l) (place r 0 (firstKelvin + r) true a b)
+  up-2 v a b l e = on (kelvin-up v ((firstKelvin + r) / 10) a b l (omega arith) (begins-1 (firstKelvin + r) ((firstKelvin + r) / 10) (omega arith) refl)) (λ m. up-1 ((firstKelvin + r) / 10) a b m refl)
 
-  up-3 : (v a b : ℕ) (l : List ℕ) → v ≡ (200 + r) / 1000 → 0 < v → Goes (filled (Going (place r 0 v true a b)) l) (place r 0 (200 + r) true a b)
-  up-3 v a b l e q = on (kelvin-up v ((200 + r) / 100) a b l (omega arith) (begins-2 (200 + r) ((200 + r) / 100) (omega arith) refl)) (λ m. up-2 ((200 + r) / 100) a b m refl)
+  up-3 : (v a b : ℕ) (l : List ℕ) → v ≡ (firstKelvin + r) / 1000 → 0 < v → Goes (filled (Going (place r 0 v true a b)) l) (place r 0 (firstKelvin + r) true a b)
+  up-3 v a b l e q = on (kelvin-up v ((firstKelvin + r) / 100) a b l (omega arith) (begins-2 (firstKelvin + r) ((firstKelvin + r) / 100) (omega arith) refl)) (λ m. up-2 ((firstKelvin + r) / 100) a b m refl)
 
-  kelvin-rest : (v a b : ℕ) (l : List ℕ) → begins (200 + r) v ≡ true → Goes (filled (Going (place r 0 v true a b)) l) (place r 0 (200 + r) true a b)
+  kelvin-rest : (v a b : ℕ) (l : List ℕ) → begins (firstKelvin + r) v ≡ true → Goes (filled (Going (place r 0 v true a b)) l) (place r 0 (firstKelvin + r) true a b)
   kelvin-rest v a b l e =
-      begins-cases (200 + r) v e
-      (λ q. subst (λ (x : ℕ). Goes (filled (Going (place r 0 x true a b)) l) (place r 0 (200 + r) true a b)) (sym q) (here _ l))
-      (up-1 v a b l) (up-2 v a b l) (λ q. up-3 v a b l q (begins-some (200 + r) v e))
+      begins-cases (firstKelvin + r) v e
+      (λ q. subst (λ (x : ℕ). Goes (filled (Going (place r 0 x true a b)) l) (place r 0 (firstKelvin + r) true a b)) (sym q) (here _ l))
+      (up-1 v a b l) (up-2 v a b l) (λ q. up-3 v a b l q (begins-some (firstKelvin + r) v e))
 
-  kelvin-on : (v : ℕ) (s : Bool) (a b : ℕ) (l : List ℕ) → (s ≡ false → v ≡ 0) → (s ≡ true → begins (200 + r) v ≡ true) → Goes (filled (Going (place r 0 v s a b)) l) (place r 0 (200 + r) true a b)
+  kelvin-on : (v : ℕ) (s : Bool) (a b : ℕ) (l : List ℕ) → (s ≡ false → v ≡ 0) → (s ≡ true → begins (firstKelvin + r) v ≡ true) → Goes (filled (Going (place r 0 v s a b)) l) (place r 0 (firstKelvin + r) true a b)
   kelvin-on v true a b l hs hb = kelvin-rest v a b l (hb refl)
-  kelvin-on v false a b l hs hb = rw (hs refl) (one _ (decimal (200 + r)) _ l (kelvin-run r a b l h))
+  kelvin-on v false a b l hs hb = rw (hs refl) (one _ (decimal (firstKelvin + r)) _ l (kelvin-run r a b l h))
 
   from-3 : (v : ℕ) (s : Bool) (a b : ℕ) (l : List ℕ) → (s ≡ false → v ≡ 0) → Goes (filled (Going (place r 3 v s a b)) l) (place (r + 1) 0 0 false 0 0)
   from-3 v s a b l hs = on (number-on 3 v s a b l (omega arith) hs) (λ m. one _ (10 ∷ []) (place (r + 1) 0 0 false 0 0) _ (feed-3 r m h a b v))
@@ -82,18 +84,18 @@ module _ (r : ℕ) (h : r < 1801) where
   from-1 : (v : ℕ) (s : Bool) (a b : ℕ) (l : List ℕ) → (s ≡ false → v ≡ 0) → Goes (filled (Going (place r 1 v s a b)) l) (place (r + 1) 0 0 false 0 0)
   from-1 v s a b l hs = on (on (number-on 1 v s a b l (omega arith) hs) (λ m. one _ (9 ∷ []) _ m (tab-1 r m h v a b))) (λ m. from-2 0 false v b m (λ q. refl))
 
-  from-0 : (v : ℕ) (s : Bool) (a b : ℕ) (l : List ℕ) → (s ≡ false → v ≡ 0) → (s ≡ true → begins (200 + r) v ≡ true) → Goes (filled (Going (place r 0 v s a b)) l) (place (r + 1) 0 0 false 0 0)
+  from-0 : (v : ℕ) (s : Bool) (a b : ℕ) (l : List ℕ) → (s ≡ false → v ≡ 0) → (s ≡ true → begins (firstKelvin + r) v ≡ true) → Goes (filled (Going (place r 0 v s a b)) l) (place (r + 1) 0 0 false 0 0)
   from-0 v s a b l hs hb = on (on (kelvin-on v s a b l hs hb) (λ m. one _ (9 ∷ []) _ m (tab-0 r m h a b))) (λ m. from-1 0 false a b m (λ q. refl))
 
-  row-on : (f v : ℕ) (s : Bool) (a b : ℕ) (l : List ℕ) → f ≤ 3 → (s ≡ false → v ≡ 0) → (f ≡ 0 → s ≡ true → begins (200 + r) v ≡ true) → Goes (filled (Going (place r f v s a b)) l) (place (r + 1) 0 0 false 0 0)
+  row-on : (f v : ℕ) (s : Bool) (a b : ℕ) (l : List ℕ) → f ≤ 3 → (s ≡ false → v ≡ 0) → (f ≡ 0 → s ≡ true → begins (firstKelvin + r) v ≡ true) → Goes (filled (Going (place r f v s a b)) l) (place (r + 1) 0 0 false 0 0)
   row-on zero v s a b l hf hs hb = from-0 v s a b l hs (hb refl)
   row-on (suc zero) v s a b l hf hs hb = from-1 v s a b l hs
   row-on (suc (suc zero)) v s a b l hf hs hb = from-2 v s a b l hs
   row-on (suc (suc (suc zero))) v s a b l hf hs hb = from-3 v s a b l hs
   row-on (suc (suc (suc (suc n)))) v s a b l hf hs hb = absurd (omega arith)
 
-rows-on : (g r : ℕ) (l : List ℕ) → r + g ≡ 1801 → Goes (filled (rowStart r) l) (place 1801 0 0 false 0 0)
-rows-on zero r l e = let q : r ≡ 1801 = omega arith in rw q (here _ l)
+rows-on : (g r : ℕ) (l : List ℕ) → r + g ≡ tableRows → Goes (filled (rowStart r) l) (place tableRows 0 0 false 0 0)
+rows-on zero r l e = let q : r ≡ tableRows = omega arith in rw q (here _ l)
 rows-on (suc g) r l e = on (row-on r (omega arith) 0 0 false 0 0 l (omega arith) (λ q. refl) (λ z q. let w : _≡_ {A = ℕ} 0 1 = cc in absurd (omega arith))) (λ m. rows-on g (r + 1) m (omega arith))
 
 -- a place that the machine comes to can be carried on to a whole sheet
@@ -101,30 +103,30 @@ record Finish (p : Place) : Type 0 where
   by : List ℕ
   whole : wholeSheet (run step (Going p) by) ≡ true
 
-finish-of : (p : Place) (l : List ℕ) → Goes (filled (Going p) l) (place 1801 0 0 false 0 0) → Finish p
+finish-of : (p : Place) (l : List ℕ) → Goes (filled (Going p) l) (place tableRows 0 0 false 0 0) → Finish p
 finish-of p l g = record { by = g .by; whole = ap wholeSheet (sym (same-state (g .by) (Going p) l) ∙ ap (λ (x : Filled). x .state) (g .runs .to)) }
 
 finish : (t : List ℕ) (p : Place) (l : List ℕ) → Held t p l → Finish p
-finish t p l o = go (ltb (p .row) 1801) refl
+finish t p l o = go (ltb (p .row) tableRows) refl
   where
-    go : (z : Bool) → ltb (p .row) 1801 ≡ z → Finish p
+    go : (z : Bool) → ltb (p .row) tableRows ≡ z → Finish p
     go true e =
-        let h : p .row < 1801 = ltb-true _ _ e in
-        finish-of p l (on (row-on (p .row) h (p .field) (p .value) (p .seen) (p .first) (p .second) l (o .fields) (o .none) (o .kelvin)) (λ m. rows-on (1801 - (p .row + 1)) (p .row + 1) m (omega arith)))
+        let h : p .row < tableRows = ltb-true _ _ e in
+        finish-of p l (on (row-on (p .row) h (p .field) (p .value) (p .seen) (p .first) (p .second) l (o .fields) (o .none) (o .kelvin)) (λ m. rows-on (tableRows - (p .row + 1)) (p .row + 1) m (omega arith)))
     go false e =
-        let h : 1801 ≤ p .row = ltb-false _ _ e in
-        let k : p .row ≤ 1801 = o .rows in
-        record { by = []; whole = eq-eqb (p .row) 1801 (omega arith) }
+        let h : tableRows ≤ p .row = ltb-false _ _ e in
+        let k : p .row ≤ tableRows = o .rows in
+        record { by = []; whole = eq-eqb (p .row) tableRows (omega arith) }
 
 -- a list to fill
 pub blank : List ℕ
-blank = replicate 5403 0
+blank = replicate sheetNumbers 0
 
-pub blank-full : length blank ≡ 5403
+pub blank-full : length blank ≡ sheetNumbers
 unfolding blank
-blank-full = length-replicate {A = ℕ} 5403 0
+blank-full = length-replicate {A = ℕ} sheetNumbers 0
 
-held-at : (text : List ℕ) (p : Place) → run step start text ≡ Going p → (l : List ℕ) → length l ≡ 5403 → Held text p (run fillByte (filled start l) text .list)
+held-at : (text : List ℕ) (p : Place) → run step start text ≡ Going p → (l : List ℕ) → length l ≡ sheetNumbers → Held text p (run fillByte (filled start l) text .list)
 held-at text p e l h = subst (λ (s : State). HeldBy text s (run fillByte (filled start l) text .list)) e (held-text text l h)
 
 pub going-begins : (text : List ℕ) (p : Place) → run step start text ≡ Going p → Begins text
@@ -138,17 +140,17 @@ bad-stays r [] = refl
 bad-stays r (b ∷ xs) = bad-stays r xs
 
 -- a good sheet's text is taken whole
-pub sheet-whole : (text s : List ℕ) → Sheet text s → run step start text ≡ rowStart 1801
+pub sheet-whole : (text s : List ℕ) → Sheet text s → run step start text ≡ rowStart tableRows
 sheet-whole text s h =
     ap (run step start) (h .is) ∙ (sym (same-state (sheetText s) start blank) ∙ ap (λ (x : Filled). x .state) (complete s blank (h .good) blank-full))
 
 pub bad-not-begins : (text : List ℕ) (r : ℕ) → run step start text ≡ Bad r → Begins text → ⊥
 bad-not-begins text r e g =
-    let q : run step start (text ++ g .rest) ≡ rowStart 1801 = sheet-whole (text ++ g .rest) (g .numbers) (g .sheet) in
+    let q : run step start (text ++ g .rest) ≡ rowStart tableRows = sheet-whole (text ++ g .rest) (g .numbers) (g .sheet) in
     let p : run step start (text ++ g .rest) ≡ Bad r = run-append step start text (g .rest) ∙ (ap (λ (s : State). run step s (g .rest)) e ∙ bad-stays r (g .rest)) in
-    never (rowStart 1801) r refl (sym q ∙ p)
+    never (rowStart tableRows) r refl (sym q ∙ p)
   where
-    never : (s : State) (r : ℕ) → s ≡ rowStart 1801 → s ≡ Bad r → ⊥
+    never : (s : State) (r : ℕ) → s ≡ rowStart tableRows → s ≡ Bad r → ⊥
     never s r p q = let z : _≡_ {A = ℕ} 0 1 = cc in omega arith
 
 -- ---- the machine's row is the number of line feeds
@@ -173,7 +175,7 @@ feeds-row k a b c = simp (feeds-append, feeds-decimal)
 
 feeds-rows : (r : ℕ) (l : List ℕ) → feeds (rowsOf r l) ≡ r
 feeds-rows zero l = refl
-feeds-rows (suc r) l = feeds-append (rowsOf r l) _ ∙ rw (feeds-rows r l, feeds-row (200 + r) (getD l (3 * r) 0) (getD l (3 * r + 1) 0) (getD l (3 * r + 2) 0)) (add-one r)
+feeds-rows (suc r) l = feeds-append (rowsOf r l) _ ∙ rw (feeds-rows r l, feeds-row (firstKelvin + r) (getD l (3 * r) 0) (getD l (3 * r + 1) 0) (getD l (3 * r + 2) 0)) (add-one r)
 
 feeds-spelled : (s : Bool) (v : ℕ) → feeds (spelled s v) ≡ 0
 feeds-spelled true v = feeds-decimal v
@@ -186,7 +188,7 @@ feeds-head (suc (suc zero)) k a b = simp (feeds-append, feeds-decimal)
 feeds-head (suc (suc (suc n))) k a b = simp (feeds-append, feeds-decimal)
 
 feeds-sofar : (p : Place) → feeds (sofar p) ≡ 0
-feeds-sofar p = feeds-append (headOf (p .field) (200 + p .row) (p .first) (p .second)) _ ∙ rw (feeds-head (p .field) (200 + p .row) (p .first) (p .second), feeds-spelled (p .seen) (p .value)) refl
+feeds-sofar p = feeds-append (headOf (p .field) (firstKelvin + p .row) (p .first) (p .second)) _ ∙ rw (feeds-head (p .field) (firstKelvin + p .row) (p .first) (p .second), feeds-spelled (p .seen) (p .value)) refl
 
 pub feeds-at : (text : List ℕ) (p : Place) → run step start text ≡ Going p → feeds text ≡ p .row
 feeds-at text p e =
@@ -228,7 +230,7 @@ not-whole-bad text w = go (run step start text) refl w
     go : (s : State) → run step start text ≡ s → wholeSheet s ≡ false → FirstBad text (rowOf s)
     go (Going p) e w =
         short (going-begins text p e)
-        (λ s h. let q : Going p ≡ rowStart 1801 = sym e ∙ sheet-whole text s h in eqb-false (p .row) 1801 w (ap rowOf q))
+        (λ s h. let q : Going p ≡ rowStart tableRows = sym e ∙ sheet-whole text s h in eqb-false (p .row) tableRows w (ap rowOf q))
         (feeds-at text p e)
     go (Bad r) e w =
         let d = died text (place 0 0 0 false 0 0) r e in
@@ -255,37 +257,37 @@ bad-row-is text r (byte p b rest x g n f) = go (alive-of p g .0) (alive-of p g .
 bad-row-is text r (short g n f) = go (alive-of text g .0) (alive-of text g .1)
   where
     go : (q : Place) → run step start text ≡ Going q → (wholeSheet (run step start text) ≡ false) × (rowOf (run step start text) ≡ r)
-    go q e = (ap wholeSheet e ∙ ne-eqb (q .row) 1801 (λ z. n _ (sound text blank blank-full (ap wholeSheet e ∙ eq-eqb (q .row) 1801 z))), ap rowOf e ∙ (sym (feeds-at text q e) ∙ f))
+    go q e = (ap wholeSheet e ∙ ne-eqb (q .row) tableRows (λ z. n _ (sound text blank blank-full (ap wholeSheet e ∙ eq-eqb (q .row) tableRows z))), ap rowOf e ∙ (sym (feeds-at text q e) ∙ f))
 
 -- ---- no first bad row is past 1,801, the row after the last
-feeds-sheet : (l : List ℕ) → feeds (sheetText l) ≡ 1801
+feeds-sheet : (l : List ℕ) → feeds (sheetText l) ≡ tableRows
 unfolding sheetText
-feeds-sheet l = feeds-rows 1801 l
+feeds-sheet l = feeds-rows tableRows l
 
-begins-most : (text : List ℕ) → Begins text → feeds text ≤ 1801
+begins-most : (text : List ℕ) → Begins text → feeds text ≤ tableRows
 begins-most text g = omega (arith, feeds-append text (g .rest), ap feeds (g .sheet .is) ∙ feeds-sheet (g .numbers))
 
-pub bad-row-most : (text : List ℕ) (r : ℕ) → FirstBad text r → r ≤ 1801
+pub bad-row-most : (text : List ℕ) (r : ℕ) → FirstBad text r → r ≤ tableRows
 bad-row-most text r (byte p b rest x g n f) = omega (arith, begins-most p g, f)
 bad-row-most text r (short g n f) = omega (arith, begins-most text g, f)
 
 -- ---- document 01's cases: r good rows and no more give row r, the empty text row 0; bytes past the end give row 1,801
-rows-state : (l : List ℕ) → Numbers l → (r : ℕ) → r ≤ 1801 → run step start (rowsOf r l) ≡ rowStart r
+rows-state : (l : List ℕ) → Numbers l → (r : ℕ) → r ≤ tableRows → run step start (rowsOf r l) ≡ rowStart r
 rows-state l g r h = sym (same-state (rowsOf r l) start blank) ∙ ap (λ (x : Filled). x .state) (rows-run l blank (g .full) blank-full (g .small) r h .to)
 
-pub rows-short : (l : List ℕ) → Numbers l → (r : ℕ) → r < 1801 → FirstBad (rowsOf r l) r
+pub rows-short : (l : List ℕ) → Numbers l → (r : ℕ) → r < tableRows → FirstBad (rowsOf r l) r
 rows-short l g r h =
     let e = rows-state l g r (omega arith) in
-    subst (λ (s : State). FirstBad (rowsOf r l) (rowOf s)) e (not-whole-bad (rowsOf r l) (ap wholeSheet e ∙ ne-eqb r 1801 (omega arith)))
+    subst (λ (s : State). FirstBad (rowsOf r l) (rowOf s)) e (not-whole-bad (rowsOf r l) (ap wholeSheet e ∙ ne-eqb r tableRows (omega arith)))
 
-past-end : (b : ℕ) → step (rowStart 1801) b ≡ Bad 1801
+past-end : (b : ℕ) → step (rowStart tableRows) b ≡ Bad tableRows
 unfolding stepPlace
 past-end b = refl
 
-pub bytes-past : (l : List ℕ) → Numbers l → (b : ℕ) (rest : List ℕ) → FirstBad (sheetText l ++ (b ∷ rest)) 1801
+pub bytes-past : (l : List ℕ) → Numbers l → (b : ℕ) (rest : List ℕ) → FirstBad (sheetText l ++ (b ∷ rest)) tableRows
 bytes-past l g b rest =
     let w = sheet-whole (sheetText l) l (record { good = g; is = refl }) in
     byte (sheetText l) b rest refl
     (record { rest = []; numbers = l; sheet = record { good = g; is = append-nil (sheetText l) } })
-    (bad-not-begins (sheetText l ++ (b ∷ [])) 1801 (run-append step start (sheetText l) (b ∷ []) ∙ (ap (λ (s : State). step s b) w ∙ past-end b)))
-    (feeds-at (sheetText l) (place 1801 0 0 false 0 0) w)
+    (bad-not-begins (sheetText l ++ (b ∷ [])) tableRows (run-append step start (sheetText l) (b ∷ []) ∙ (ap (λ (s : State). step s b) w ∙ past-end b)))
+    (feeds-at (sheetText l) (place tableRows 0 0 false 0 0) w)

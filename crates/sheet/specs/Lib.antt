@@ -1,4 +1,5 @@
 -- The sheet's text, a sheet list's acceptance, and what the calls on them tell: definitions, and the laws that other crates cite
+pub mod Limits
 pub mod Text
 pub mod Sheet
 pub mod Answers

@@ -5,7 +5,9 @@ use mathlib.Core.Bool.{Bool, true, false, not, _&&_, _||_, cond}
 use mathlib.Core.List.{List, [], _∷_}
 use lib.Seq.{sets}
 use lib.Dec.{ltb, eqb}
+use Rattle.rows.specs.Limits.{firstKelvin, tableRows}
 use Rattle.text.specs.Reading.{isDigit, mayFollow}
+use Rattle.sheet.specs.Limits.{mostFigure}
 use Rattle.sheet.specs.declared.machine.Place.{Place}
 use Rattle.sheet.specs.declared.machine.State.{State}
 use Rattle.sheet.specs.declared.machine.State.the-variants.{Going, Bad}
@@ -19,14 +21,14 @@ begins k v = ltb 0 v && (eqb v k || (eqb v (k / 10) || (eqb v (k / 100) || eqb v
 
 -- may the digit d follow in the field at hand? Field 0 is the kelvin, which the row fixes
 unfoldable pub takesDigit : Place → ℕ → Bool
-takesDigit p d = cond (eqb (p .field) 0) (begins (200 + p .row) (10 * p .value + d)) (mayFollow 200000 (p .seen) (p .value) d)
+takesDigit p d = cond (eqb (p .field) 0) (begins (firstKelvin + p .row) (10 * p .value + d)) (mayFollow mostFigure (p .seen) (p .value) d)
 
 unfoldable pub withDigit : Place → ℕ → Place
 withDigit p d = record { row = p .row; field = p .field; value = 10 * p .value + d; seen = true; first = p .first; second = p .second }
 
 -- may the field at hand end here?
 unfoldable pub whole : Place → Bool
-whole p = cond (eqb (p .field) 0) (eqb (p .value) (200 + p .row)) (p .seen)
+whole p = cond (eqb (p .field) 0) (eqb (p .value) (firstKelvin + p .row)) (p .seen)
 
 -- the byte that ends the field: a tab, after the last a line feed
 unfoldable pub closer : Place → ℕ
@@ -56,7 +58,7 @@ unfoldable pub stepEnd : Place → ℕ → State
 stepEnd p b = cond (endsField p b) (Going (after p)) (Bad (p .row))
 
 unfoldable pub stepPlace : Place → ℕ → State
-stepPlace p b = cond (ltb (p .row) 1801) (cond (isDigit b) (stepDigit p (b - 48)) (stepEnd p b)) (Bad (p .row))
+stepPlace p b = cond (ltb (p .row) tableRows) (cond (isDigit b) (stepDigit p (b - 48)) (stepEnd p b)) (Bad (p .row))
 
 -- one byte more. A bad row stays
 abbrev pub step : State → ℕ → State
@@ -70,12 +72,12 @@ rowOf (Bad r) = r
 
 -- all rows read, and nothing after
 abbrev pub wholeSheet : State → Bool
-wholeSheet (Going p) = eqb (p .row) 1801
+wholeSheet (Going p) = eqb (p .row) tableRows
 wholeSheet (Bad r) = false
 
 -- does the byte end a row?
 unfoldable pub endsRow : Place → ℕ → Bool
-endsRow p b = ltb (p .row) 1801 && (eqb b 10 && (not (ltb (p .field) 3) && p .seen))
+endsRow p b = ltb (p .row) tableRows && (eqb b 10 && (not (ltb (p .field) 3) && p .seen))
 
 -- the list after the byte: a row's three numbers are written when the row ends
 unfoldable pub storedPlace : Place → ℕ → List ℕ → List ℕ

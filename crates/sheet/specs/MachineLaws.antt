@@ -9,9 +9,11 @@ use lib.Dec.{ltb, eqb}
 use lib.ListN.{length}
 use lib.Seq.{sets, length-sets}
 use borrow.Author.Tests.{eqb-true, ltb-true, ltb-false, lt-ltb, eq-eqb, ne-eqb, not-true}
+use Rattle.rows.specs.Limits.{firstKelvin, tableRows}
 use Rattle.text.specs.Reading.{isDigit, mayFollow}
 use Rattle.text.specs.ReadingLaws.{digit-range, follow-most, and-left, and-right}
 use Rattle.refusal.specs.Refusals.{first}
+use Rattle.sheet.specs.Limits.{mostFigure}
 use Rattle.sheet.specs.declared.machine.Place.{Place}
 use Rattle.sheet.specs.declared.machine.State.{State}
 use Rattle.sheet.specs.declared.machine.State.the-variants.{Going, Bad}
@@ -63,17 +65,17 @@ begins-le : (k v : ℕ) → begins k v ≡ true → v ≤ k
 begins-le k v e = begins-cases k v e (λ q. omega arith) (λ q. omega arith) (λ q. omega arith) (λ q. omega arith)
 
 -- ---- the bounds that keep the machine's numbers and places
-pub takes-bound : (p : Place) (d : ℕ) → p .row < 1801 → takesDigit p d ≡ true → 10 * p .value + d ≤ 200000
+pub takes-bound : (p : Place) (d : ℕ) → p .row < tableRows → takesDigit p d ≡ true → 10 * p .value + d ≤ mostFigure
 unfolding takesDigit
 takes-bound p d h e = go (eqb (p .field) 0) e
   where
-    go : (z : Bool) → cond z (begins (200 + p .row) (10 * p .value + d)) (mayFollow 200000 (p .seen) (p .value) d) ≡ true → 10 * p .value + d ≤ 200000
-    go true e = omega (arith, begins-le (200 + p .row) (10 * p .value + d) e)
-    go false e = follow-most 200000 (p .seen) (p .value) d e
+    go : (z : Bool) → cond z (begins (firstKelvin + p .row) (10 * p .value + d)) (mayFollow mostFigure (p .seen) (p .value) d) ≡ true → 10 * p .value + d ≤ mostFigure
+    go true e = omega (arith, begins-le (firstKelvin + p .row) (10 * p .value + d) e)
+    go false e = follow-most mostFigure (p .seen) (p .value) d e
 
-pub row-bound : (p : Place) (b : ℕ) → endsRow p b ≡ true → p .row < 1801
+pub row-bound : (p : Place) (b : ℕ) → endsRow p b ≡ true → p .row < tableRows
 unfolding endsRow
-row-bound p b e = ltb-true (p .row) 1801 (and-left _ _ e)
+row-bound p b e = ltb-true (p .row) tableRows (and-left _ _ e)
 
 pub length-stored : (s : State) (b : ℕ) (l : List ℕ) → length (stored s b l) ≡ length l
 unfolding storedPlace
@@ -87,18 +89,18 @@ length-stored (Bad r) b l = refl
 -- ---- what a byte does at a place: it is refused, or it is a digit that may follow, or it ends the field
 pub data View (p : Place) (b : ℕ) (l : List ℕ) : State → List ℕ → Type 0 where
   dies : View p b l (Bad (p .row)) l
-  digit : (d : ℕ) → b ≡ 48 + d → d < 10 → p .row < 1801 → takesDigit p d ≡ true → View p b l (Going (withDigit p d)) l
-  ends : p .row < 1801 → endsField p b ≡ true → View p b l (Going (after p)) (storedPlace p b l)
+  digit : (d : ℕ) → b ≡ 48 + d → d < 10 → p .row < tableRows → takesDigit p d ≡ true → View p b l (Going (withDigit p d)) l
+  ends : p .row < tableRows → endsField p b ≡ true → View p b l (Going (after p)) (storedPlace p b l)
 
-pub stored-same : (p : Place) (b : ℕ) (l : List ℕ) → p .row < 1801 → (b ≡ 10 → ⊥) → storedPlace p b l ≡ l
+pub stored-same : (p : Place) (b : ℕ) (l : List ℕ) → p .row < tableRows → (b ≡ 10 → ⊥) → storedPlace p b l ≡ l
 unfolding storedPlace endsRow
-stored-same p b l h n = simp (lt-ltb (p .row) 1801 h, ne-eqb b 10 n)
+stored-same p b l h n = simp (lt-ltb (p .row) tableRows h, ne-eqb b 10 n)
 
 -- a byte that ends a row ends its last field
 row-ends-field : (p : Place) (b : ℕ) → endsRow p b ≡ true → endsField p b ≡ true
 unfolding endsRow endsField closer whole
 row-ends-field p b e =
-    let e1 : (eqb b 10 && (not (ltb (p .field) 3) && p .seen)) ≡ true = and-right (ltb (p .row) 1801) _ e in
+    let e1 : (eqb b 10 && (not (ltb (p .field) 3) && p .seen)) ≡ true = and-right (ltb (p .row) tableRows) _ e in
     let e2 : (not (ltb (p .field) 3) && p .seen) ≡ true = and-right (eqb b 10) _ e1 in
     let f : ltb (p .field) 3 ≡ false = not-true _ (and-left _ _ e2) in
     let g : 3 ≤ p .field = ltb-false _ _ f in
@@ -115,23 +117,23 @@ stored-dead p b l e = go (endsRow p b) refl
     go true k = let q : endsField p b ≡ true = row-ends-field p b k in let z : _≡_ {A = ℕ} 0 1 = cc in absurd (omega arith)
     go false k = refl
 
-stored-late : (p : Place) (b : ℕ) (l : List ℕ) → ltb (p .row) 1801 ≡ false → storedPlace p b l ≡ l
+stored-late : (p : Place) (b : ℕ) (l : List ℕ) → ltb (p .row) tableRows ≡ false → storedPlace p b l ≡ l
 unfolding storedPlace endsRow
 stored-late p b l e = simp e
 
 pub view : (p : Place) (b : ℕ) (l : List ℕ) → View p b l (stepPlace p b) (storedPlace p b l)
 unfolding stepPlace stepDigit stepEnd
-view p b l = go (ltb (p .row) 1801) (isDigit b) (takesDigit p (b - 48)) (endsField p b) refl refl refl refl
+view p b l = go (ltb (p .row) tableRows) (isDigit b) (takesDigit p (b - 48)) (endsField p b) refl refl refl refl
   where
-    go : (x y z w : Bool) → ltb (p .row) 1801 ≡ x → isDigit b ≡ y → takesDigit p (b - 48) ≡ z → endsField p b ≡ w
+    go : (x y z w : Bool) → ltb (p .row) tableRows ≡ x → isDigit b ≡ y → takesDigit p (b - 48) ≡ z → endsField p b ≡ w
         → View p b l (cond x (cond y (cond z (Going (withDigit p (b - 48))) (Bad (p .row))) (cond w (Going (after p)) (Bad (p .row)))) (Bad (p .row))) (storedPlace p b l)
     go false y z w ex ey ez ew = rw (stored-late p b l ex) dies
     go true true true w ex ey ez ew =
-        let h : p .row < 1801 = ltb-true _ _ ex in
+        let h : p .row < tableRows = ltb-true _ _ ex in
         let r : (48 ≤ b) × (b ≤ 57) = digit-range b ey in
         rw (stored-same p b l h (omega arith)) (digit (b - 48) (omega arith) (omega arith) h ez)
     go true true false w ex ey ez ew =
-        let h : p .row < 1801 = ltb-true _ _ ex in
+        let h : p .row < tableRows = ltb-true _ _ ex in
         let r : (48 ≤ b) × (b ≤ 57) = digit-range b ey in
         rw (stored-same p b l h (omega arith)) dies
     go true false z true ex ey ez ew = ends (ltb-true _ _ ex) ew

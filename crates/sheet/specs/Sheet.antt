@@ -6,25 +6,27 @@ use mathlib.Core.List.{List}
 use Prim.Native.Nat.{ℕ, zero, suc, _+_, _-_, _*_, _<_}
 use lib.Dec.{ltb, eqb}
 use lib.ListN.{length, getD}
+use Rattle.rows.specs.Limits.{firstKelvin, tableRows}
 use Rattle.rows.specs.Table.{airH}
+use Rattle.sheet.specs.Limits.{mostFigure, sheetNumbers}
 
 -- the three columns by kelvin
 unfoldable pub o2 : List ℕ → ℕ → ℕ
-o2 s k = getD s (3 * (k - 200)) 0
+o2 s k = getD s (3 * (k - firstKelvin)) 0
 
 unfoldable pub co2 : List ℕ → ℕ → ℕ
-co2 s k = getD s (3 * (k - 200) + 1) 0
+co2 s k = getD s (3 * (k - firstKelvin) + 1) 0
 
 unfoldable pub h2o : List ℕ → ℕ → ℕ
-h2o s k = getD s (3 * (k - 200) + 2) 0
+h2o s k = getD s (3 * (k - firstKelvin) + 2) 0
 
 -- a lent sheet list is not 5,403 long
 abbrev pub notLong : List ℕ → Bool
-notLong s = not (eqb (length s) 5403)
+notLong s = not (eqb (length s) sheetNumbers)
 
 -- a value over 200,000
 unfoldable pub overLimit : List ℕ → ℕ → Bool
-overLimit s k = ltb 200000 (o2 s k) || (ltb 200000 (co2 s k) || ltb 200000 (h2o s k))
+overLimit s k = ltb mostFigure (o2 s k) || (ltb mostFigure (co2 s k) || ltb mostFigure (h2o s k))
 
 -- step rule, from each kelvin to the next: no gas falls, and O2 rises by at most four times the rise of air
 abbrev pub falls : (ℕ → ℕ) → ℕ → Bool
@@ -38,8 +40,8 @@ breaksStep s k = falls (o2 s) k || (falls (co2 s) k || (falls (h2o s) k || ltb (
 
 -- a row is bad if it holds a value over 200,000 or breaks the step rule against the row before it
 abbrev pub badRow : List ℕ → ℕ → Bool
-badRow s zero = overLimit s 200
-badRow s (suc r) = overLimit s (200 + suc r) || breaksStep s (200 + r)
+badRow s zero = overLimit s firstKelvin
+badRow s (suc r) = overLimit s (firstKelvin + suc r) || breaksStep s (firstKelvin + r)
 
 -- the first of n numbers from r on that passes a test, r + n where none does
 abbrev pub firstFrom : (ℕ → Bool) → ℕ → ℕ → ℕ
@@ -48,9 +50,9 @@ firstFrom test (suc n) r = cond (test r) r (firstFrom test n (suc r))
 
 -- rows are judged in order from 0; 1,801 where none is bad
 unfoldable pub firstBadRow : List ℕ → ℕ
-firstBadRow s = firstFrom (badRow s) 1801 0
+firstBadRow s = firstFrom (badRow s) tableRows 0
 
 -- an accepted sheet passes all three: length, the 200,000 limit and the step rule
 pub record Accepted (s : List ℕ) : Type 0 where
-  pub long : length s ≡ 5403
-  pub noBadRow : (r : ℕ) → r < 1801 → badRow s r ≡ false
+  pub long : length s ≡ sheetNumbers
+  pub noBadRow : (r : ℕ) → r < tableRows → badRow s r ≡ false

@@ -10,7 +10,9 @@ use native.Mathlib.Omega.{arith}
 use lib.Dec.{ltb}
 use lib.ListN.{getD, List·getD-eq-default}
 use borrow.Author.Tests.{ltb-false, lt-ltb, le-ltb}
+use Rattle.rows.specs.Limits.{firstKelvin, lastKelvin, tableRows}
 use Rattle.rows.specs.Table.{airH}
+use Rattle.sheet.specs.Limits.{mostFigure, sheetNumbers}
 use Rattle.sheet.specs.Text.{Numbers}
 use Rattle.sheet.specs.Sheet.{o2, co2, h2o, overLimit, falls, rise, breaksStep, badRow, firstFrom, firstBadRow, Accepted}
 use Rattle.refusal.specs.BoolLaws.{neither}
@@ -44,33 +46,33 @@ module _ (test : ℕ → Bool) where
       add-suc = omega arith
 
 -- ---- bad rows
-pub bad-row-at : (s : List ℕ) (r : ℕ) → 0 < r → badRow s r ≡ (overLimit s (200 + r) || breaksStep s (200 + r - 1))
+pub bad-row-at : (s : List ℕ) (r : ℕ) → 0 < r → badRow s r ≡ (overLimit s (firstKelvin + r) || breaksStep s (firstKelvin + r - 1))
 bad-row-at s zero h = absurd (omega arith)
-bad-row-at s (suc r) h = let e : 200 + suc r - 1 ≡ 200 + r = omega arith in rw e refl
+bad-row-at s (suc r) h = let e : firstKelvin + suc r - 1 ≡ firstKelvin + r = omega arith in rw e refl
 
-pub first-bad-found : (s : List ℕ) (r : ℕ) → r < 1801 → badRow s r ≡ true → ((i : ℕ) → i < r → badRow s i ≡ false) → firstBadRow s ≡ r
+pub first-bad-found : (s : List ℕ) (r : ℕ) → r < tableRows → badRow s r ≡ true → ((i : ℕ) → i < r → badRow s i ≡ false) → firstBadRow s ≡ r
 unfolding firstBadRow
-first-bad-found s r h e f = first-found (badRow s) 1801 0 r (omega arith) h e (λ i a b. f i b)
+first-bad-found s r h e f = first-found (badRow s) tableRows 0 r (omega arith) h e (λ i a b. f i b)
 
-pub no-bad-row : (s : List ℕ) → ((r : ℕ) → r < 1801 → badRow s r ≡ false) → firstBadRow s ≡ 1801
+pub no-bad-row : (s : List ℕ) → ((r : ℕ) → r < tableRows → badRow s r ≡ false) → firstBadRow s ≡ tableRows
 unfolding firstBadRow
-no-bad-row s f = first-none (badRow s) 1801 0 (λ i a b. f i b)
+no-bad-row s f = first-none (badRow s) tableRows 0 (λ i a b. f i b)
 
 pub rows-before : (s : List ℕ) (r : ℕ) → r < firstBadRow s → badRow s r ≡ false
 unfolding firstBadRow
-rows-before s r h = none-before (badRow s) 1801 0 r (omega arith) h
+rows-before s r h = none-before (badRow s) tableRows 0 r (omega arith) h
 
 -- ---- a test of several parts that fails, fails in each
 pub record InLimit (s : List ℕ) (k : ℕ) : Type 0 where
-  pub o2-most : o2 s k ≤ 200000
-  pub co2-most : co2 s k ≤ 200000
-  pub h2o-most : h2o s k ≤ 200000
+  pub o2-most : o2 s k ≤ mostFigure
+  pub co2-most : co2 s k ≤ mostFigure
+  pub h2o-most : h2o s k ≤ mostFigure
 
 in-limit : (s : List ℕ) (k : ℕ) → overLimit s k ≡ false → InLimit s k
 unfolding overLimit
 in-limit s k e =
-    let a = neither (ltb 200000 (o2 s k)) _ e in
-    let b = neither (ltb 200000 (co2 s k)) _ (a .1) in
+    let a = neither (ltb mostFigure (o2 s k)) _ e in
+    let b = neither (ltb mostFigure (co2 s k)) _ (a .1) in
     record { o2-most = ltb-false _ _ (a .0); co2-most = ltb-false _ _ (b .0); h2o-most = ltb-false _ _ (b .1) }
 
 pub record KeepsStep (s : List ℕ) (k : ℕ) : Type 0 where
@@ -90,7 +92,7 @@ keeps-step s k e =
 -- and the other way round
 pub over-no : (s : List ℕ) (k : ℕ) → InLimit s k → overLimit s k ≡ false
 unfolding overLimit
-over-no s k h = simp (le-ltb 200000 (o2 s k) (h .o2-most), le-ltb 200000 (co2 s k) (h .co2-most), le-ltb 200000 (h2o s k) (h .h2o-most))
+over-no s k h = simp (le-ltb mostFigure (o2 s k) (h .o2-most), le-ltb mostFigure (co2 s k) (h .co2-most), le-ltb mostFigure (h2o s k) (h .h2o-most))
 
 pub step-kept : (s : List ℕ) (k : ℕ) → KeepsStep s k → breaksStep s k ≡ false
 unfolding breaksStep
@@ -102,20 +104,20 @@ unfolding breaksStep
 steep-breaks s k h = simp (lt-ltb (4 * rise airH k) (rise (o2 s) k) h, or-true)
 
 -- ---- what acceptance gives at each kelvin
-module _ {s : List ℕ} (a : Accepted s) (k : ℕ) (l : 200 ≤ k) where
-  row-of-kelvin : k ≤ 2000 → (r : ℕ) → 200 + r ≡ k → overLimit s k ≡ false
+module _ {s : List ℕ} (a : Accepted s) (k : ℕ) (l : firstKelvin ≤ k) where
+  row-of-kelvin : k ≤ lastKelvin → (r : ℕ) → firstKelvin + r ≡ k → overLimit s k ≡ false
   row-of-kelvin u zero e = subst (λ (x : ℕ). overLimit s x ≡ false) e (a .noBadRow 0 (omega arith))
-  row-of-kelvin u (suc r) e = subst (λ (x : ℕ). overLimit s x ≡ false) e (neither (overLimit s (200 + suc r)) _ (a .noBadRow (suc r) (omega arith)) .0)
+  row-of-kelvin u (suc r) e = subst (λ (x : ℕ). overLimit s x ≡ false) e (neither (overLimit s (firstKelvin + suc r)) _ (a .noBadRow (suc r) (omega arith)) .0)
 
   -- values are at most 200,000
-  pub accepted-limit : k ≤ 2000 → InLimit s k
-  accepted-limit u = in-limit s k (row-of-kelvin u (k - 200) (omega arith))
+  pub accepted-limit : k ≤ lastKelvin → InLimit s k
+  accepted-limit u = in-limit s k (row-of-kelvin u (k - firstKelvin) (omega arith))
 
   -- from each kelvin to the next no gas falls, and O2 rises by at most four times the rise of air
-  pub accepted-step : k < 2000 → KeepsStep s k
+  pub accepted-step : k < lastKelvin → KeepsStep s k
   accepted-step u =
-      let e : 200 + (k - 200) ≡ k = omega arith in
-      keeps-step s k (subst (λ (x : ℕ). breaksStep s x ≡ false) e (neither (overLimit s (200 + suc (k - 200))) _ (a .noBadRow (suc (k - 200)) (omega arith)) .1))
+      let e : firstKelvin + (k - firstKelvin) ≡ k = omega arith in
+      keeps-step s k (subst (λ (x : ℕ). breaksStep s x ≡ false) e (neither (overLimit s (firstKelvin + suc (k - firstKelvin))) _ (a .noBadRow (suc (k - firstKelvin)) (omega arith)) .1))
 
 -- its columns by kelvin never fall
 module _ {s : List ℕ} (a : Accepted s) where
@@ -130,16 +132,16 @@ module _ {s : List ℕ} (a : Accepted s) where
 
 -- every number of an accepted sheet is at most 200,000
 module _ {s : List ℕ} (a : Accepted s) where
-  place-small : (i j : ℕ) → i < 5403 → i ≡ 3 * (i / 3) + j → j < 3 → getD s i 0 ≤ 200000
+  place-small : (i j : ℕ) → i < sheetNumbers → i ≡ 3 * (i / 3) + j → j < 3 → getD s i 0 ≤ mostFigure
   unfolding o2 co2 h2o
-  place-small i zero h e g = let q : 3 * (200 + i / 3 - 200) ≡ i = omega arith in rw q at (accepted-limit a (200 + i / 3) (omega arith) (omega arith) .o2-most)
-  place-small i (suc zero) h e g = let q : 3 * (200 + i / 3 - 200) + 1 ≡ i = omega arith in rw q at (accepted-limit a (200 + i / 3) (omega arith) (omega arith) .co2-most)
-  place-small i (suc (suc zero)) h e g = let q : 3 * (200 + i / 3 - 200) + 2 ≡ i = omega arith in rw q at (accepted-limit a (200 + i / 3) (omega arith) (omega arith) .h2o-most)
+  place-small i zero h e g = let q : 3 * (firstKelvin + i / 3 - firstKelvin) ≡ i = omega arith in rw q at (accepted-limit a (firstKelvin + i / 3) (omega arith) (omega arith) .o2-most)
+  place-small i (suc zero) h e g = let q : 3 * (firstKelvin + i / 3 - firstKelvin) + 1 ≡ i = omega arith in rw q at (accepted-limit a (firstKelvin + i / 3) (omega arith) (omega arith) .co2-most)
+  place-small i (suc (suc zero)) h e g = let q : 3 * (firstKelvin + i / 3 - firstKelvin) + 2 ≡ i = omega arith in rw q at (accepted-limit a (firstKelvin + i / 3) (omega arith) (omega arith) .h2o-most)
   place-small i (suc (suc (suc j))) h e g = absurd (omega arith)
 
   pub accepted-numbers : Numbers s
-  accepted-numbers = record { full = a .long; small = λ i. small i (decLt i 5403) }
+  accepted-numbers = record { full = a .long; small = λ i. small i (decLt i sheetNumbers) }
     where
-      small : (i : ℕ) → Dec (i < 5403) → getD s i 0 ≤ 200000
+      small : (i : ℕ) → Dec (i < sheetNumbers) → getD s i 0 ≤ mostFigure
       small i (yes h) = place-small i (i % 3) h (omega arith) (omega arith)
       small i (no h) = rw (List·getD-eq-default s 0 {n = i} (omega (arith, a .long))) (omega arith)

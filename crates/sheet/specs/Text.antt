@@ -7,7 +7,9 @@ use mathlib.Core.Path.{_≡_}
 use mathlib.Core.List.{List, [], _∷_, _++_}
 use lib.ListN.{length, getD}
 use lib.Dec.{eqb}
+use Rattle.rows.specs.Limits.{firstKelvin, tableRows}
 use Rattle.text.specs.Decimal.{decimal}
+use Rattle.sheet.specs.Limits.{mostFigure, sheetNumbers}
 
 -- a line: four fields, a tab after each of the first three and a line feed after the last
 unfoldable pub rowText : ℕ → ℕ → ℕ → ℕ → List ℕ
@@ -16,16 +18,16 @@ rowText k a b c = decimal k ++ (9 ∷ []) ++ decimal a ++ (9 ∷ []) ++ decimal 
 -- the first lines, from kelvin 200
 abbrev pub rowsOf : ℕ → List ℕ → List ℕ
 rowsOf zero l = []
-rowsOf (suc r) l = rowsOf r l ++ rowText (200 + r) (getD l (3 * r) 0) (getD l (3 * r + 1) 0) (getD l (3 * r + 2) 0)
+rowsOf (suc r) l = rowsOf r l ++ rowText (firstKelvin + r) (getD l (3 * r) 0) (getD l (3 * r + 1) 0) (getD l (3 * r + 2) 0)
 
 -- the text of a sheet's numbers
 unfoldable pub sheetText : List ℕ → List ℕ
-sheetText l = rowsOf 1801 l
+sheetText l = rowsOf tableRows l
 
 -- 5,403 numbers of 0 to 200,000
 pub record Numbers (l : List ℕ) : Type 0 where
-  pub full : length l ≡ 5403
-  pub small : (i : ℕ) → getD l i 0 ≤ 200000
+  pub full : length l ≡ sheetNumbers
+  pub small : (i : ℕ) → getD l i 0 ≤ mostFigure
 
 -- the text is the good sheet of these numbers
 pub record Sheet (text numbers : List ℕ) : Type 0 where

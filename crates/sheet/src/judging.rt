@@ -3,26 +3,28 @@ use crate::inner;
 ghost use mathlib.Core.Path.{_≡_};
 ghost use Prim.Native.Nat.{_≤_, _<_};
 ghost use lib.ListN.{length};
+ghost use Rattle.rows.specs.Limits.{firstKelvin, lastKelvin, tableRows};
 ghost use Rattle.rows.specs.Rows.{rowsH};
+ghost use Rattle.sheet.specs.Limits.{sheetNumbers};
 ghost use Rattle.sheet.specs.Sheet.{overLimit, breaksStep, badRow, firstBadRow};
 
-// Whether the row of a kelvin holds a value over 200,000.
+// Whether the row of a kelvin holds a value over the most.
 fn over_limit(list: &[u32], kelvin: u64) -> bool
-    requires { ⌜ (length (now list) ≡ 5403) × (200 ≤ kelvin) × (kelvin ≤ 2000) ⌝ }
+    requires { ⌜ (length (now list) ≡ sheetNumbers) × (firstKelvin ≤ kelvin) × (kelvin ≤ lastKelvin) ⌝ }
     ensures { λ r. ⌜ r ≡ overLimit (now (list .entry)) kelvin ⌝ }
 {
-    if inner::o2_at(list, kelvin) > 200000 {
+    if inner::o2_at(list, kelvin) > crate::MOST_FIGURE {
         return true;
     }
-    if inner::co2_at(list, kelvin) > 200000 {
+    if inner::co2_at(list, kelvin) > crate::MOST_FIGURE {
         return true;
     }
-    inner::h2o_at(list, kelvin) > 200000
+    inner::h2o_at(list, kelvin) > crate::MOST_FIGURE
 }
 
 // Whether the step rule is broken from a kelvin to the next.
-fn breaks_step(list: &[u32], air: &[u32; 1801], kelvin: u64) -> bool
-    requires { ⌜ (length (now list) ≡ 5403) × (now air ≡ rowsH) × (200 ≤ kelvin) × (kelvin < 2000) ⌝ }
+fn breaks_step(list: &[u32], air: &[u32; rows::ROWS], kelvin: u64) -> bool
+    requires { ⌜ (length (now list) ≡ sheetNumbers) × (now air ≡ rowsH) × (firstKelvin ≤ kelvin) × (kelvin < lastKelvin) ⌝ }
     ensures { λ r. ⌜ r ≡ breaksStep (now (list .entry)) kelvin ⌝ }
 {
     let from = inner::o2_at(list, kelvin);
@@ -41,27 +43,27 @@ fn breaks_step(list: &[u32], air: &[u32; 1801], kelvin: u64) -> bool
 }
 
 // Whether a row after row 0 is bad.
-fn bad_row(list: &[u32], air: &[u32; 1801], row: u32) -> bool
-    requires { ⌜ (length (now list) ≡ 5403) × (now air ≡ rowsH) × (0 < row) × (row < 1801) ⌝ }
+fn bad_row(list: &[u32], air: &[u32; rows::ROWS], row: u32) -> bool
+    requires { ⌜ (length (now list) ≡ sheetNumbers) × (now air ≡ rowsH) × (0 < row) × (row < tableRows) ⌝ }
     ensures { λ r. ⌜ r ≡ badRow (now (list .entry)) row ⌝ }
 {
-    let kelvin = 200 + row as u64;
+    let kelvin = rows::FIRST_KELVIN + row as u64;
     if over_limit(list, kelvin) {
         return true;
     }
     breaks_step(list, air, kelvin - 1)
 }
 
-// The first bad row, 1,801 where none is.
-pub(crate) fn first_bad_row(list: &[u32], air: &[u32; 1801]) -> u32
-    requires { ⌜ (length (now list) ≡ 5403) × (now air ≡ rowsH) ⌝ }
+// The first bad row, past the last where none is.
+pub(crate) fn first_bad_row(list: &[u32], air: &[u32; rows::ROWS]) -> u32
+    requires { ⌜ (length (now list) ≡ sheetNumbers) × (now air ≡ rowsH) ⌝ }
     ensures { λ r. ⌜ r ≡ firstBadRow (now (list .entry)) ⌝ }
 {
-    if over_limit(list, 200) {
+    if over_limit(list, rows::FIRST_KELVIN) {
         return 0;
     }
     let mut row = 1;
-    while row < 1801 {
+    while row < crate::ROWS {
         if bad_row(list, air, row) {
             return row;
         }

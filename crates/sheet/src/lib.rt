@@ -15,21 +15,29 @@ pub enum SheetAnswer {
     Refused(Refusal),
 }
 
-// a lent sheet list is not 5,403 long
+// the rows of a sheet, as a row is counted, and the kelvin of the first
+const ROWS: u32 = rows::ROWS as u32;
+const FIRST_KELVIN: u32 = rows::FIRST_KELVIN as u32;
+// three numbers a row
+pub const NUMBERS: usize = 3 * rows::ROWS;
+// no value is over it
+const MOST_FIGURE: u64 = 200000;
+
+// a lent sheet list is not as long as a sheet
 pub const LIST_LENGTH: u32 = 1;
 // sheet text breaks its form
 pub const FORM: u32 = 2;
-// a value over 200,000 in a sheet list, or step rule broken
+// a value over the most in a sheet list, or step rule broken
 pub const BAD_ROW: u32 = 3;
 
-// Reads the text of a sheet into a list of 5,403 numbers, row by row: O2, CO2 and H2O of 200 K first.
+// Reads the text of a sheet into a list of its numbers, row by row: O2, CO2 and H2O of 200 K first.
 pub fn read_sheet(text: &[u8], list: &mut [u32]) -> SheetAnswer
     ensures { λ r. ⌜ SheetRead (now (text .entry)) (now (list .entry)) r (now (list .exit)) ⌝ }
 {
-    if list.len() != 5403 {
+    if list.len() != NUMBERS {
         return SheetAnswer::Refused(Refusal::Plain(LIST_LENGTH));
     }
-    let mut numbers = [0u32; 5403];
+    let mut numbers = [0u32; NUMBERS];
     let s = machine::fill(machine::start(), text, &mut numbers);
     if machine::whole_sheet(s) {
         inner::copy(&numbers, list);

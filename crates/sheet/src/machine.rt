@@ -3,7 +3,9 @@ ghost use mathlib.Core.Path.{_≡_};
 ghost use mathlib.Core.Bool.{Bool, cond};
 ghost use Prim.Native.Nat.{_+_, _*_, _<_};
 ghost use lib.ListN.{length};
+ghost use Rattle.rows.specs.Limits.{tableRows};
 ghost use Rattle.text.specs.Fold.{run};
+ghost use Rattle.sheet.specs.Limits.{sheetNumbers};
 ghost use Rattle.sheet.specs.Machine.{begins as Machine·begins, takesDigit, withDigit, whole as Machine·whole, closer as Machine·closer, after as Machine·after, stepDigit, endsField, stepEnd, stepPlace, start as Machine·start, rowOf, wholeSheet, endsRow, storedPlace, filled, fillByte};
 
 // Where the reader stands: the row, the field in it, the number so far and whether it has a digit, and the row's first two numbers.
@@ -43,13 +45,13 @@ fn begins(k: u64, v: u64) -> bool
 
 // Whether the digit d may follow in the field at hand.
 fn takes_digit(p: Place, d: u8) -> bool
-    requires { ⌜ p .row < 1801 ⌝ }
+    requires { ⌜ p .row < tableRows ⌝ }
     ensures { λ r. ⌜ r ≡ takesDigit p d ⌝ }
 {
     if p.field == 0 {
-        begins(200 + p.row as u64, 10 * (p.value as u64) + (d as u64))
+        begins(rows::FIRST_KELVIN + p.row as u64, 10 * (p.value as u64) + (d as u64))
     } else {
-        text::may_follow(200000, p.seen, p.value as u64, d)
+        text::may_follow(crate::MOST_FIGURE, p.seen, p.value as u64, d)
     }
 }
 
@@ -70,11 +72,11 @@ fn with_digit(p: Place, d: u8) -> Place
 
 // Whether the field at hand may end here.
 fn whole(p: Place) -> bool
-    requires { ⌜ p .row < 1801 ⌝ }
+    requires { ⌜ p .row < tableRows ⌝ }
     ensures { λ r. ⌜ r ≡ Machine·whole p ⌝ }
 {
     if p.field == 0 {
-        p.value == 200 + p.row
+        p.value == crate::FIRST_KELVIN + p.row
     } else {
         p.seen
     }
@@ -96,7 +98,7 @@ fn choose(c: bool, a: u32, b: u32) -> u32
 
 // The place after the end of the field at hand.
 fn after(p: Place) -> Place
-    requires { ⌜ p .row < 1801 ⌝ }
+    requires { ⌜ p .row < tableRows ⌝ }
     ensures { λ r. ⌜ r ≡ Machine·after p ⌝ }
 {
     if p.field < 3 {
@@ -122,7 +124,7 @@ fn after(p: Place) -> Place
 
 // The state after a digit.
 fn step_digit(p: Place, d: u8) -> State
-    requires { ⌜ p .row < 1801 ⌝ }
+    requires { ⌜ p .row < tableRows ⌝ }
     ensures { λ r. ⌜ r ≡ stepDigit p d ⌝ }
 {
     if takes_digit(p, d) {
@@ -134,7 +136,7 @@ fn step_digit(p: Place, d: u8) -> State
 
 // Whether the byte ends the field at hand.
 fn ends_field(p: Place, b: u8) -> bool
-    requires { ⌜ p .row < 1801 ⌝ }
+    requires { ⌜ p .row < tableRows ⌝ }
     ensures { λ r. ⌜ r ≡ endsField p b ⌝ }
 {
     if b == closer(p) { whole(p) } else { false }
@@ -142,7 +144,7 @@ fn ends_field(p: Place, b: u8) -> bool
 
 // The state after a byte that is no digit.
 fn step_end(p: Place, b: u8) -> State
-    requires { ⌜ p .row < 1801 ⌝ }
+    requires { ⌜ p .row < tableRows ⌝ }
     ensures { λ r. ⌜ r ≡ stepEnd p b ⌝ }
 {
     if ends_field(p, b) {
@@ -156,7 +158,7 @@ fn step_end(p: Place, b: u8) -> State
 fn step_place(p: Place, b: u8) -> State
     ensures { λ r. ⌜ r ≡ stepPlace p b ⌝ }
 {
-    if p.row >= 1801 {
+    if p.row >= crate::ROWS {
         return State::Bad(p.row);
     }
     if text::is_digit(b) {
@@ -185,7 +187,7 @@ pub(crate) fn whole_sheet(s: State) -> bool
     ensures { λ r. ⌜ r ≡ wholeSheet s ⌝ }
 {
     match s {
-        State::Going(p) => p.row == 1801,
+        State::Going(p) => p.row == crate::ROWS,
         State::Bad(_) => false,
     }
 }
@@ -204,7 +206,7 @@ pub(crate) fn row_of(s: State) -> u32
 fn ends_row(p: Place, b: u8) -> bool
     ensures { λ r. ⌜ r ≡ endsRow p b ⌝ }
 {
-    if p.row >= 1801 {
+    if p.row >= crate::ROWS {
         return false;
     }
     if b != 10 {
@@ -218,7 +220,7 @@ fn ends_row(p: Place, b: u8) -> bool
 
 // Writes the row's three numbers where the byte ends it.
 fn store_place(p: Place, b: u8, list: &mut [u32])
-    requires { ⌜ length (now list) ≡ 5403 ⌝ }
+    requires { ⌜ length (now list) ≡ sheetNumbers ⌝ }
     ensures { λ _. ⌜ now (list .exit) ≡ storedPlace p b (now (list .entry)) ⌝ }
 {
     if ends_row(p, b) {
@@ -231,7 +233,7 @@ fn store_place(p: Place, b: u8, list: &mut [u32])
 
 // The state after the text, each row's numbers written as the row ends, up to the byte after which no good sheet can follow.
 pub(crate) fn fill(from: Place, text: &[u8], list: &mut [u32]) -> State
-    requires { ⌜ length (now list) ≡ 5403 ⌝ }
+    requires { ⌜ length (now list) ≡ sheetNumbers ⌝ }
     ensures { λ r. ⌜ filled r (now (list .exit)) ≡ run fillByte (filled (State.Going from) (now (list .entry))) (now (text .entry)) ⌝ }
 {
     let mut p = from;

@@ -11,7 +11,7 @@ use lib.Signed.{_≤ℤ_}
 use mir.Syntax.{w64}
 use mir.Val.{SFits}
 use Rattle.signed.specs.Zed.{le-from, ltZ-false, up, dn, apart, is-self, is-minus, same-by, fits-from, inZ, in-range, not-outside, zed}
-use Rattle.air.specs.Limits.{fifteenDegrees}
+use Rattle.air.specs.Limits.{fifteenDegrees, coldest, hottest}
 use Rattle.air.specs.declared.Millikelvin.{Millikelvin}
 use Rattle.refusal.specs.declared.Refusal.{Refusal}
 use Rattle.refusal.specs.Refusals.{Told, gives, refused, first, Clear, clear, numberOf}
@@ -40,8 +40,8 @@ use Rattle.walk.specs.Work as work
 use Rattle.walk.proofs.Asking.{brought-most, fuel-small}
 
 -- a temperature in range, as a natural
-pub mk-range : (z : ℤ) → inZ (pos 200000) (pos 2000000) z ≡ true → (200000 ≤ up z) × (up z ≤ 2000000) × (dn z ≡ 0)
-mk-range z e = let h = in-range (pos 200000) (pos 2000000) z e in (omega (zed, apart z, h .least), omega (zed, apart z, h .most), omega (zed, apart z, h .least))
+pub mk-range : (z : ℤ) → inZ (pos coldest) (pos hottest) z ≡ true → (coldest ≤ up z) × (up z ≤ hottest) × (dn z ≡ 0)
+mk-range z e = let h = in-range (pos coldest) (pos hottest) z e in (omega (zed, apart z, h .least), omega (zed, apart z, h .most), omega (zed, apart z, h .least))
 
 -- ---- what a step asks
 module _ (s : List ℕ) (st : Standing) (p : Step) where
@@ -141,11 +141,11 @@ module _ (s : List ℕ) (st : Standing) (p : Step) where
       left-is : left .0 ≡ rest v target
       left-is = sym (ap (λ (f : Found). f .left) (cleared .1))
 
-      reached : v 200000 ≤ℤ target
+      reached : v coldest ≤ℤ target
       reached = first-clear (cleared .0)
         where
-          first-clear : Clear (unreached v target) → v 200000 ≤ℤ target
-          first-clear (clear x c) = le-from (ltZ-false target (v 200000) x)
+          first-clear : Clear (unreached v target) → v coldest ≤ℤ target
+          first-clear (clear x c) = le-from (ltZ-false target (v coldest) x)
 
       judged-is : judged ≡ gives out
       judged-is = is-sought ∙ values-given out (cleared .0)
@@ -178,7 +178,7 @@ module _ (s : List ℕ) (st : Standing) (p : Step) where
                 ∙ ap (λ (k : ℕ). eleven (looks v target) ++ drop k before) (sym (length-eleven (looks v target) (looks-most v target)));
             stands = ready {st = standing a t left} {rest = left} (record {
               burns = b .0;
-              covered = rw mk-is (not-false _ (not-outside (pos 200000) (pos 2000000) (pos T) (omega (arith, temperature-least v target reached)) (omega (arith, temperature-most v target reached))));
+              covered = rw mk-is (not-false _ (not-outside (pos coldest) (pos hottest) (pos T) (omega (arith, temperature-least v target reached)) (omega (arith, temperature-most v target reached))));
               heat-is = heat-there ∙ ap v (sym n);
               fifteen-is = b .1;
             });

@@ -9,7 +9,7 @@ use lib.Dec.{ltb, eqb}
 use lib.IntN.{ℤ, pos}
 use lib.ListN.{length}
 use Rattle.signed.specs.Zed.{up, inZ}
-use Rattle.air.specs.Limits.{lookPlaces}
+use Rattle.air.specs.Limits.{lookPlaces, coldest, hottest}
 use Rattle.air.specs.declared.Millikelvin.{Millikelvin}
 use Rattle.refusal.specs.declared.Refusal.{Refusal}
 use Rattle.refusal.specs.declared.Refusal.the-variants.{Plain}
@@ -85,7 +85,7 @@ module _ (s : List ℕ) (ch : Charge) (mk : ℤ) (numbers : List ℤ) (nt nr nl 
     -- or the walk begins
     pub record Begins (g : Gas) : Type 0 where
       pub burns : Burns document01 g
-      pub covered : inZ (pos 200000) (pos 2000000) mk ≡ true
+      pub covered : inZ (pos coldest) (pos hottest) mk ≡ true
       pub gas-is : gasOf ch ≡ g
       pub runs : told ≡ gives course
 
@@ -94,8 +94,8 @@ module _ (s : List ℕ) (ch : Charge) (mk : ℤ) (numbers : List ℤ) (nt nr nl 
         let c = gives-clear (chargeLines document01 ch ++ temperatureLines mk) {a = gasOf ch} {b = g} (sym q) in
         rw (← c .1) (begins-clear (c .0))
       where
-        last-clear : Clear (temperatureLines mk) → inZ (pos 200000) (pos 2000000) mk ≡ true
-        last-clear (clear z n) = not-false (inZ (pos 200000) (pos 2000000) mk) z
+        last-clear : Clear (temperatureLines mk) → inZ (pos coldest) (pos hottest) mk ≡ true
+        last-clear (clear z n) = not-false (inZ (pos coldest) (pos hottest) mk) z
 
         begins-clear : Clear (chargeLines document01 ch ++ temperatureLines mk) → Begins (gasOf ch)
         begins-clear c =

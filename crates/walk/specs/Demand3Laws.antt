@@ -12,7 +12,7 @@ use Rattle.signed.specs.Zed.{up, is-pos, is-self, is-add, is-minus, lt-by, zed}
 use Rattle.refusal.specs.Refusals.{Told, gives, refused, Line, Clear, clear, none as nothing}
 use Rattle.refusal.specs.BoolLaws.{neither}
 use Rattle.refusal.specs.RefusalsLaws.{gives-clear, values-given}
-use Rattle.air.specs.Limits.{lookPlaces}
+use Rattle.air.specs.Limits.{lookPlaces, coldest}
 use Rattle.air.specs.Halving.{eleven}
 use Rattle.air.specs.HalvingLaws.{length-eleven}
 use Rattle.air.specs.Inverse.{rest, looks}
@@ -221,7 +221,7 @@ module _ (w : Weights) (s : List ℕ) (climb : AllClimb w s) (lines : List Line)
 pub all-climb : (w : Weights) → Sound w → {s : List ℕ} → Accepted s → AllClimb w s
 all-climb w so ok st p o d =
     let b = neither (ltZ (p .hydrogen) (pos 0)) (beyond w (added (st .gas) p)) (neither (ltZ (p .carbon) (pos 0)) _ (d .atoms) .1) .1 in
-    gas-rises w so ok (newGas (st .gas) p) (record { limits = limits-of w (added (st .gas) p) b; is-lean = d .burns }) 200000 (omega arith) (omega arith)
+    gas-rises w so ok (newGas (st .gas) p) (record { limits = limits-of w (added (st .gas) p) b; is-lean = d .burns }) coldest (omega arith) (omega arith)
 
 module _ (w : Weights) (so : Sound w) (s : List ℕ) (start : Charge) (from : ℤ) (numbers : List ℤ) (before : Lists) where
   began-accepted : (T : Trace) → walkedInto before (sheetLines s) w s start from numbers ≡ gives T → Accepted s

@@ -5,6 +5,7 @@ use Prim.Native.Nat.{ℕ, zero, suc, _+_, _-_}
 use lib.Dec.{ltb}
 use lib.IntN.{ℤ, pos, _+ℤ_, _-ℤ_}
 use Rattle.signed.specs.Zed.{up}
+use Rattle.air.specs.Limits.{coldest, hottest}
 use Rattle.gas.specs.declared.Gas.{Gas}
 use Rattle.gas.specs.Burning.{Weights}
 use Rattle.gas.specs.Heat.{gasHeat}
@@ -31,7 +32,7 @@ largest f (suc n) T = cond (ltb (largest f n (suc T)) (f T)) (f T) (largest f n 
 
 -- the dearest thousandth of a kelvin of a gas: the largest rise of its gas heat from one mK to the next, from 200,000 to 2,000,000
 unfoldable pub dearest : Weights → List ℕ → Gas → ℕ
-dearest w s g = largest (rise (gasHeat w s g)) 1800000 200000
+dearest w s g = largest (rise (gasHeat w s g)) (hottest - coldest) coldest
 
 abbrev pub sumOf : List ℕ → ℕ
 sumOf [] = 0

@@ -4,7 +4,7 @@ use borrow.Author.Tests.{ltb-true, ltb-false}
 use mathlib.Core.Path.{_≡_, refl, sym, _∙_, ap}
 use mathlib.Core.List.{List, [], _∷_, map}
 use mathlib.Core.Logic.{⊎-elim}
-use Prim.Native.Nat.{ℕ, zero, suc, _+_, _*_, _/_, _%_, _<_, _≤_}
+use Prim.Native.Nat.{ℕ, zero, suc, _+_, _-_, _*_, _/_, _%_, _<_, _≤_}
 use native.Mathlib.Nat.{eq-or-lt-of-le, suc-mul}
 use native.Mathlib.Omega.{arith}
 use lib.Dec.{ltb}
@@ -14,7 +14,8 @@ use lib.Signed.{_≤ℤ_, _<ℤ_}
 use Rattle.signed.specs.Zed.{up, apart, is-pos, is-self, is-add, is-minus, same-by, le-by, zed, le-parts, lt-parts}
 use Rattle.refusal.specs.Refusals.{gives}
 use Rattle.refusal.specs.BoolLaws.{by-bool}
-use Rattle.air.specs.Limits.{fifteenDegrees}
+use Rattle.rows.specs.Limits.{firstKelvin, lastKelvin}
+use Rattle.air.specs.Limits.{fifteenDegrees, coldest, hottest}
 use Rattle.air.specs.Inverse.{temperature, rest}
 use Rattle.air.specs.InverseLaws.{temperature-least, temperature-most, rest-least, next-exceeds}
 use Rattle.gas.specs.declared.Gas.{Gas}
@@ -56,20 +57,20 @@ largest-one f (suc n) T =
     (λ h. let o = largest-one f n (suc T) in record { place = o .place; least = omega (arith, o .least); most = omega (arith, o .most); is = rw h (o .is) })
 
 -- the dearest thousandth: at least every rise, and equal to one
-pub dearest-least : (w : Weights) (s : List ℕ) (g : Gas) (T : ℕ) → 200000 ≤ T → T < 2000000 → rise (gasHeat w s g) T ≤ dearest w s g
+pub dearest-least : (w : Weights) (s : List ℕ) (g : Gas) (T : ℕ) → coldest ≤ T → T < hottest → rise (gasHeat w s g) T ≤ dearest w s g
 unfolding dearest
-dearest-least w s g T l u = largest-most (rise (gasHeat w s g)) 1800000 200000 T l u
+dearest-least w s g T l u = largest-most (rise (gasHeat w s g)) (hottest - coldest) coldest T l u
 
-pub dearest-is-one : (w : Weights) (s : List ℕ) (g : Gas) → OneOf (rise (gasHeat w s g)) 200000 2000000 (dearest w s g)
+pub dearest-is-one : (w : Weights) (s : List ℕ) (g : Gas) → OneOf (rise (gasHeat w s g)) coldest hottest (dearest w s g)
 unfolding dearest
-dearest-is-one w s g = largest-one (rise (gasHeat w s g)) 1799999 200000
+dearest-is-one w s g = largest-one (rise (gasHeat w s g)) (hottest - coldest - 1) coldest
 
 -- ---- the heat of a gas that burns runs straight, so its dearest thousandth is the largest slope of a row
 module _ (w : Weights) (sound : Sound w) {s : List ℕ} (ok : Accepted s) (g : Gas) (b : Burns w g) where
   abbrev slope : ℕ → ℕ
   slope k = heatSlope (massesOf w g) s k
 
-  rise-at : (k f : ℕ) → 200 ≤ k → k < 2000 → f < 1000 → rise (gasHeat w s g) (1000 * k + f) ≡ slope k
+  rise-at : (k f : ℕ) → firstKelvin ≤ k → k < lastKelvin → f < 1000 → rise (gasHeat w s g) (1000 * k + f) ≡ slope k
   rise-at k f l u h =
       let t = air-outweighs w sound g b in
       let here = heat-line (massesOf w g) t ok k l u f (omega arith) in
@@ -78,16 +79,16 @@ module _ (w : Weights) (sound : Sound w) {s : List ℕ} (ok : Accepted s) (g : G
       let base = is-self (gasHeat w s g (1000 * k)) in
       rw (e, here, next) (ap up (same-by (is-minus (is-add base (is-pos (suc f * slope k))) (is-add base (is-pos (f * slope k)))) (is-pos (slope k)) (omega (arith, suc-mul f (slope k)))))
 
-  rise-is : (T : ℕ) → 200000 ≤ T → T < 2000000 → rise (gasHeat w s g) T ≡ slope (T / 1000)
+  rise-is : (T : ℕ) → coldest ≤ T → T < hottest → rise (gasHeat w s g) T ≡ slope (T / 1000)
   rise-is T l u =
       let e : 1000 * (T / 1000) + T % 1000 ≡ T = omega arith in
       ap (rise (gasHeat w s g)) (sym e) ∙ rise-at (T / 1000) (T % 1000) (omega arith) (omega arith) (omega arith)
 
-  pub slope-most : (k : ℕ) → 200 ≤ k → k < 2000 → slope k ≤ dearest w s g
+  pub slope-most : (k : ℕ) → firstKelvin ≤ k → k < lastKelvin → slope k ≤ dearest w s g
   slope-most k l u =
       omega (arith, rise-at k 0 l u (omega arith), dearest-least w s g (1000 * k + 0) (omega arith) (omega arith))
 
-  pub dearest-is-slope : OneOf slope 200 2000 (dearest w s g)
+  pub dearest-is-slope : OneOf slope firstKelvin lastKelvin (dearest w s g)
   dearest-is-slope =
       let o = dearest-is-one w s g in
       record { place = o .place / 1000; least = omega (arith, o .least); most = omega (arith, o .most); is = o .is ∙ rise-is (o .place) (o .least) (o .most) }
@@ -118,7 +119,7 @@ module _ (w : Weights) (s : List ℕ) (st : State) (p : Step) (o : Out) (d : Ste
   gas-after = rw (d .out) refl
 
   -- the rest is less than the dearest thousandth, where the heat rises at all
-  below-next : temperature v target < 2000000 → (rest v target +ℤ pos 1) ≤ℤ pos (dearest w s (newGas (st .gas) p))
+  below-next : temperature v target < hottest → (rest v target +ℤ pos 1) ≤ℤ pos (dearest w s (newGas (st .gas) p))
   unfolding rest
   below-next h =
       let T = temperature v target in
@@ -128,17 +129,17 @@ module _ (w : Weights) (s : List ℕ) (st : State) (p : Step) (o : Out) (d : Ste
       le-by (is-add (is-minus (is-self target) (is-self (v T))) (is-pos 1)) (is-pos (dearest w s (newGas (st .gas) p)))
       (omega (arith, i, apart (v (suc T) -ℤ v T)))
 
-  at-last : temperature v target ≡ 2000000 → v 200000 <ℤ v 200001 → (rest v target +ℤ pos 1) ≤ℤ pos (dearest w s (newGas (st .gas) p))
+  at-last : temperature v target ≡ hottest → v coldest <ℤ v (suc coldest) → (rest v target +ℤ pos 1) ≤ℤ pos (dearest w s (newGas (st .gas) p))
   unfolding rest
   at-last e h =
       let a = le-parts (d .most) in
       let b = lt-parts h in
-      let r = dearest-least w s (newGas (st .gas) p) 200000 (omega arith) (omega arith) in
-      let i = is-minus (is-self (v 200001)) (is-self (v 200000)) in
-      rw e (le-by (is-add (is-minus (is-self target) (is-self (v 2000000))) (is-pos 1)) (is-pos (dearest w s (newGas (st .gas) p)))
-      (omega (arith, i, apart (v 200001 -ℤ v 200000))))
+      let r = dearest-least w s (newGas (st .gas) p) coldest (omega arith) (omega arith) in
+      let i = is-minus (is-self (v (suc coldest))) (is-self (v coldest)) in
+      rw e (le-by (is-add (is-minus (is-self target) (is-self (v hottest))) (is-pos 1)) (is-pos (dearest w s (newGas (st .gas) p)))
+      (omega (arith, i, apart (v (suc coldest) -ℤ v coldest))))
 
-  pub rest-small : v 200000 <ℤ v 200001 → (o .rests +ℤ pos 1) ≤ℤ pos (dearest w s (o .state .gas))
+  pub rest-small : v coldest <ℤ v (suc coldest) → (o .rests +ℤ pos 1) ≤ℤ pos (dearest w s (o .state .gas))
   rest-small h =
       rw (d .out)
       (⊎-elim (λ e. at-last e h) (λ c. below-next c) (eq-or-lt-of-le (temperature-most v target (d .reached))))
@@ -146,7 +147,7 @@ module _ (w : Weights) (s : List ℕ) (st : State) (p : Step) (o : Out) (d : Ste
 -- ---- a run
 -- the heat of a gas rises from 200,000 mK to the next
 abbrev pub Climbs : Weights → List ℕ → Gas → Type 0
-Climbs w s g = gasHeat w s g 200000 <ℤ gasHeat w s g 200001
+Climbs w s g = gasHeat w s g coldest <ℤ gasHeat w s g (suc coldest)
 
 -- the gas of every step that is done climbs
 abbrev pub AllClimb : Weights → List ℕ → Type 0

@@ -10,6 +10,7 @@ use lib.Signed.{_≤ℤ_}
 use Rattle.signed.specs.Zed.{le-from, ltZ-false}
 use Rattle.refusal.specs.Refusals.{Told, gives, refused, andThen, Clear, clear, numberOf}
 use Rattle.refusal.specs.RefusalsLaws.{gives-clear}
+use Rattle.air.specs.Limits.{coldest, hottest}
 use Rattle.air.specs.Inverse.{unreached}
 use Rattle.gas.specs.declared.Gas.{Gas}
 use Rattle.gas.specs.Burning.{Weights, lean}
@@ -24,8 +25,8 @@ pub record StepDone (w : Weights) (s : List ℕ) (st : State) (p : Step) (o : Ou
   pub atoms : wrongAtoms w (st .gas) p ≡ false
   pub heat : wrongHeat p ≡ false
   pub burns : lean w (newGas (st .gas) p) ≡ true
-  pub reached : gasHeat w s (newGas (st .gas) p) 200000 ≤ℤ askedOf w s (held w s st) (st .gas) p .target
-  pub most : askedOf w s (held w s st) (st .gas) p .target ≤ℤ gasHeat w s (newGas (st .gas) p) 2000000
+  pub reached : gasHeat w s (newGas (st .gas) p) coldest ≤ℤ askedOf w s (held w s st) (st .gas) p .target
+  pub most : askedOf w s (held w s st) (st .gas) p .target ≤ℤ gasHeat w s (newGas (st .gas) p) hottest
   pub out : o ≡ outOf w s (askedOf w s (held w s st) (st .gas) p)
 
 record Through {A B : Type 0} (t : Told A) (f : A → Told B) (b : B) : Type 0 where
@@ -40,8 +41,8 @@ through (refused r) f b e = absurd (let z : _≡_ {A = ℕ} 0 1 = cc in omega ar
 ask-clear : (w : Weights) (g : Gas) (p : Step) → Clear (askLines w g p) → (wrongAtoms w g p ≡ false) × (wrongHeat p ≡ false) × (lean w (newGas g p) ≡ true)
 ask-clear w g p (clear a (clear b (clear c n))) = (a, b, not-false (lean w (newGas g p)) c)
 
-end-clear : (v : ℕ → ℤ) (t : ℤ) → Clear (unreached v t) → (v 200000 ≤ℤ t) × (t ≤ℤ v 2000000)
-end-clear v t (clear a (clear b n)) = (le-from (ltZ-false t (v 200000) a), le-from (ltZ-false (v 2000000) t b))
+end-clear : (v : ℕ → ℤ) (t : ℤ) → Clear (unreached v t) → (v coldest ≤ℤ t) × (t ≤ℤ v hottest)
+end-clear v t (clear a (clear b n)) = (le-from (ltZ-false t (v coldest) a), le-from (ltZ-false (v hottest) t b))
 
 pub step-done : (w : Weights) (s : List ℕ) (st : State) (p : Step) (o : Out) → judge w s st p ≡ gives o → StepDone w s st p o
 unfolding judge asked sought

@@ -9,7 +9,7 @@ use lib.IntN.{ℤ, pos, _+ℤ_, _-ℤ_}
 use lib.Signed.{ltZ}
 use Rattle.signed.specs.Zed.{up, dn, inZ, outside}
 use Rattle.refusal.specs.Refusals.{Told, gives, refused, refuses, numberOf}
-use Rattle.air.specs.Limits.{fifteenDegrees}
+use Rattle.air.specs.Limits.{fifteenDegrees, coldest, hottest}
 use Rattle.air.specs.declared.Millikelvin.{Millikelvin}
 use Rattle.air.specs.Halving.{eleven}
 use Rattle.gas.specs.declared.Heat.{Heat}
@@ -38,7 +38,7 @@ stateOf st = record { gas = st .gas; mk = up (st .t .0) }
 -- a gas that burns, at a temperature in range, with its heat there and at 15 °C
 pub record Stands (s : List ℕ) (st : Standing) : Type 0 where
   pub burns : Burns document01 (st .gas)
-  pub covered : inZ (pos 200000) (pos 2000000) (st .t .0) ≡ true
+  pub covered : inZ (pos coldest) (pos hottest) (st .t .0) ≡ true
   pub heat-is : st .heat .0 ≡ gasHeat document01 s (st .gas) (up (st .t .0))
   pub fifteen-is : st .fifteen .0 ≡ gasHeat document01 s (st .gas) fifteenDegrees
 

@@ -15,7 +15,7 @@ ghost use Rattle.signed.specs.Zed.{up, inZ};
 ghost use mathlib.Core.Bool.{true};
 ghost use Rattle.rows.specs.Rows.{rowsH};
 ghost use Rattle.refusal.specs.Refusals.{gives};
-ghost use Rattle.air.specs.Limits.{lookPlaces};
+ghost use Rattle.air.specs.Limits.{lookPlaces, coldest, hottest};
 ghost use Rattle.sheet.specs.Sheet.{Accepted};
 ghost use Rattle.gas.specs.Burning.{document01, Limits, Burns};
 ghost use Rattle.walk.specs.Limits.{stepNumbers, mostSteps};
@@ -36,8 +36,8 @@ fn charge_of(gas: Gas) -> Charge
 }
 
 // Where a walk stands before its first step.
-pub(crate) fn begin(gas: Gas, t: Millikelvin, sheet: &[u32], air: &[u32; 1801]) -> Standing
-    requires { ⌜ Burns document01 gas × Accepted (now sheet) × (now air ≡ rowsH) × (inZ (pos 200000) (pos 2000000) (t .0) ≡ true) ⌝ }
+pub(crate) fn begin(gas: Gas, t: Millikelvin, sheet: &[u32], air: &[u32; rows::ROWS]) -> Standing
+    requires { ⌜ Burns document01 gas × Accepted (now sheet) × (now air ≡ rowsH) × (inZ (pos coldest) (pos hottest) (t .0) ≡ true) ⌝ }
     ensures { λ r. ⌜ Begun (now (sheet .entry)) gas t r ⌝ }
 {
     Standing {
@@ -50,7 +50,7 @@ pub(crate) fn begin(gas: Gas, t: Millikelvin, sheet: &[u32], air: &[u32; 1801]) 
 
 // A walk done to its end.
 fn done(n: usize, st: Standing) -> WalkAnswer
-    requires { ⌜ (n ≤ mostSteps) × Limits document01 (st .gas) × (inZ (pos 200000) (pos 2000000) (st .t .0) ≡ true) ⌝ }
+    requires { ⌜ (n ≤ mostSteps) × Limits document01 (st .gas) × (inZ (pos coldest) (pos hottest) (st .t .0) ≡ true) ⌝ }
     ensures { λ r. ⌜ paperWalk r ≡ gives (courseOf n (ended (stateOf st))) ⌝ }
 {
     let gas = st.gas;
@@ -60,7 +60,7 @@ fn done(n: usize, st: Standing) -> WalkAnswer
 
 // A walk stopped at its step n.
 fn stopped(n: usize, number: u32, st: Standing) -> WalkAnswer
-    requires { ⌜ (n ≤ mostSteps) × Limits document01 (st .gas) × (inZ (pos 200000) (pos 2000000) (st .t .0) ≡ true) ⌝ }
+    requires { ⌜ (n ≤ mostSteps) × Limits document01 (st .gas) × (inZ (pos coldest) (pos hottest) (st .t .0) ≡ true) ⌝ }
     ensures { λ r. ⌜ paperWalk r ≡ gives (courseOf n (cut number (stateOf st))) ⌝ }
 {
     let gas = st.gas;
@@ -91,7 +91,7 @@ pub(crate) fn go(
     rests: &mut [i64],
     looks: &mut [u32],
     sheet: &[u32],
-    air: &[u32; 1801],
+    air: &[u32; rows::ROWS],
 ) -> WalkAnswer
     requires { ⌜ Stands (now sheet) start × Accepted (now sheet) × (now air ≡ rowsH) ⌝ }
     requires { ⌜ (n ≤ mostSteps) × (stepNumbers * n ≤ length (now steps)) × (n ≤ length (now temperatures)) × (n ≤ length (now rests)) × (lookPlaces * n ≤ length (now looks)) ⌝ }

@@ -47,7 +47,7 @@ pub fn walk_judged(
     rests: &mut [i64],
     looks: &mut [u32],
     sheet: &[u32],
-    air: &[u32; 1801],
+    air: &[u32; rows::ROWS],
 ) -> WalkAnswer
     requires { ⌜ Accepted (now sheet) × (now air ≡ rowsH) ⌝ }
     ensures { λ r. ⌜ WalkPromise [] (now (sheet .entry)) charge (t .0) (now (steps .entry))

@@ -132,7 +132,7 @@ fn target(heat: Heat, fifteen: Heat, brought: Heat, new: Heat) -> Heat
 }
 
 // The first half of a step: what it asks, refusals 4, 7 and 5 tested in this order.
-fn asked_of(st: Standing, p: Step, sheet: &[u32], air: &[u32; 1801]) -> Ask
+fn asked_of(st: Standing, p: Step, sheet: &[u32], air: &[u32; rows::ROWS]) -> Ask
     requires { ⌜ Stands (now sheet) st × Accepted (now sheet) × (now air ≡ rowsH) ⌝ }
     ensures { λ r. ⌜ Asks (asked document01 (now (sheet .entry)) (held document01 (now (sheet .entry)) (stateOf st)) (st .gas) p) (now (sheet .entry)) r ⌝ }
 {
@@ -178,7 +178,7 @@ pub(crate) fn step(
     p: Step,
     looks: &mut [u32],
     sheet: &[u32],
-    air: &[u32; 1801],
+    air: &[u32; rows::ROWS],
 ) -> Stepped
     requires { ⌜ Stands (now sheet) st × Accepted (now sheet) × (now air ≡ rowsH) × (lookPlaces ≤ length (now looks)) ⌝ }
     ensures { λ r. ⌜ StepGives (judge document01 (now (sheet .entry)) (stateOf st) p) (now (sheet .entry)) (now (looks .entry)) r (now (looks .exit)) ⌝ }

@@ -11,7 +11,8 @@ use lib.IntN.{ℤ, pos}
 use lib.ListN.{length, take, drop, getD, replicate, length-drop}
 use lib.Seq.{take-suc, drop-cons}
 use Rattle.signed.specs.Zed.{eqZ}
-use Rattle.air.specs.Limits.{lookPlaces}
+use Rattle.rows.specs.Limits.{firstKelvin, lastKelvin}
+use Rattle.air.specs.Limits.{lookPlaces, hottest}
 use Rattle.text.specs.Decimal.{decimal}
 use Rattle.air.specs.Halving.{halving, eleven}
 use Rattle.air.specs.HalvingLaws.{halving-ind}
@@ -75,19 +76,19 @@ used-above zero none = refl
 used-above (suc n) none = refl
 used-above {ks} n (next {k} h a) = rw (ne-eqb k 0 (λ e. omega arith)) (ap (λ (x : List ℕ). k ∷ x) (used-above n a))
 
-halving-above : (p : ℕ → Bool) → Above (halving p 200 2000 .looks)
+halving-above : (p : ℕ → Bool) → Above (halving p firstKelvin lastKelvin .looks)
 halving-above p =
     halving-ind p (λ lo hi s. 0 < lo → Above (s .looks))
     (λ lo l. none)
     (λ lo hi s w e h l. next (omega arith) (h (omega arith)))
     (λ lo hi s w e h l. next (omega arith) (h l))
-    200 2000 (omega arith) (omega arith)
+    firstKelvin lastKelvin (omega arith) (omega arith)
 
 pub used-eleven : (v : ℕ → ℤ) (t : ℤ) → used (eleven (looks v t)) ≡ looks v t
 unfolding eleven looks
-used-eleven v t = used-above (lookPlaces - length (looks v t)) (above (eqZ t (v 2000000)))
+used-eleven v t = used-above (lookPlaces - length (looks v t)) (above (eqZ t (v hottest)))
   where
-    above : (b : Bool) → Above (cond b [] (halving (λ k. fits v t (1000 * k)) 200 2000 .looks))
+    above : (b : Bool) → Above (cond b [] (halving (λ k. fits v t (1000 * k)) firstKelvin lastKelvin .looks))
     above true = none
     above false = halving-above (λ k. fits v t (1000 * k))
 

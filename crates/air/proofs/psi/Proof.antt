@@ -6,6 +6,7 @@ use mir.Val.{SFits}
 use mir.Syntax.{w64}
 use Rattle.rows.specs.Table.{column}
 use Rattle.signed.specs.Zed.{tested, tested-plain, tested-nat}
+use Rattle.air.specs.Limits.{coldest, hottest}
 use Rattle.air.specs.ReadingsLaws.{psi-read, psi-never-falls}
 use Rattle.air.specs.Readings.{airPsiAt, NeverFalls}
 use Rattle.refusal.specs.Refusals.{gives}
@@ -19,23 +20,23 @@ covered-requires : tie.Need-covered-requires
 covered-requires c κs = search needs
 
 returns : tie.Need-returns
-returns c = rw (tested 200000 2000000 (fit (c .before .before)) (c .before .covered .ensures) (c .if1 .taken)) refl
+returns c = rw (tested coldest hottest (fit (c .before .before)) (c .before .covered .ensures) (c .if1 .taken)) refl
 
 psi-column-requires : tie.Need-psi-column-requires
 psi-column-requires c κs = search needs
 
 to-u64-requires : tie.Need-to-u64-requires
-to-u64-requires c κs = tested-plain 200000 2000000 (fit (c .before .before .before .before .before)) (c .before .before .before .before .covered .ensures) (c .before .before .before .if1 .left)
+to-u64-requires c κs = tested-plain coldest hottest (fit (c .before .before .before .before .before)) (c .before .before .before .before .covered .ensures) (c .before .before .before .if1 .left)
 
 read-requires : tie.Need-read-requires
 read-requires c κs =
-    let n = tested-nat 200000 2000000 (fit (c .before .before .before .before .before .before)) (c .before .before .before .before .before .covered .ensures) (c .before .before .before .before .if1 .left) (c .to-u64 .ensures) in
+    let n = tested-nat coldest hottest (fit (c .before .before .before .before .before .before)) (c .before .before .before .before .before .covered .ensures) (c .before .before .before .before .if1 .left) (c .to-u64 .ensures) in
     (n .least, n .most, subst⁻¹ (λ (l : List ℕ). NeverFalls (column l)) (c .before .before .before .psi-column .ensures) psi-never-falls)
 
 returns-2 : tie.Need-returns-2
 returns-2 c =
-    let n = tested-nat 200000 2000000 (fit (c .before .before .before .before .before .before .before)) (c .before .before .before .before .before .before .covered .ensures) (c .before .before .before .before .before .if1 .left) (c .before .to-u64 .ensures) in
-    rw (tested 200000 2000000 (fit (c .before .before .before .before .before .before .before)) (c .before .before .before .before .before .before .covered .ensures) (c .before .before .before .before .before .if1 .left)) (ap gives (psi-read _ _ _ (c .before .before .before .before .psi-column .ensures) (c .read .ensures) ∙ ap airPsiAt (n .number)))
+    let n = tested-nat coldest hottest (fit (c .before .before .before .before .before .before .before)) (c .before .before .before .before .before .before .covered .ensures) (c .before .before .before .before .before .if1 .left) (c .before .to-u64 .ensures) in
+    rw (tested coldest hottest (fit (c .before .before .before .before .before .before .before)) (c .before .before .before .before .before .before .covered .ensures) (c .before .before .before .before .before .if1 .left)) (ap gives (psi-read _ _ _ (c .before .before .before .before .psi-column .ensures) (c .read .ensures) ∙ ap airPsiAt (n .number)))
 
 pub psi-spec : {M : Type 1} → statement M
 psi-spec =

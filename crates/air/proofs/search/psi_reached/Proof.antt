@@ -6,6 +6,7 @@ use native.Mathlib.Omega.{arith}
 use lib.Arith.{lt-of-le-ne}
 use lib.ListN.{length}
 use lib.Seq.{length-sets}
+use Rattle.rows.specs.Limits.{lastKelvin}
 use Rattle.rows.specs.Table.{airPsi}
 use Rattle.air.specs.Search.{psiFits, PsiRow}
 use Rattle.air.specs.HalvingLaws.{at-most-eleven}
@@ -14,11 +15,11 @@ use Rattle.air.proofs.search.psi_reached.Statement.{statement}
 use Rattle.air.proofs.search.psi_reached.Tie as tie
 
 -- psi at 2,000 K, as read
-last-figure : (c : tie.After-figure) → 1000 * c .figure .result ≡ 1000 * airPsi 2000
-last-figure c = ap (λ (n : ℕ). 1000 * n) (psi-figure 2000 (c .before .before .pre .0) (c .figure .ensures .0))
+last-figure : (c : tie.After-figure) → 1000 * c .figure .result ≡ 1000 * airPsi lastKelvin
+last-figure c = ap (λ (n : ℕ). 1000 * n) (psi-figure lastKelvin (c .before .before .pre .0) (c .figure .ensures .0))
 
 -- past the test of the last
-reached : (c : tie.Else1) → c .before .before .before .args .target < 1000 * airPsi 2000
+reached : (c : tie.Else1) → c .before .before .before .args .target < 1000 * airPsi lastKelvin
 reached c = lt-of-le-ne (c .before .before .before .pre .3) (λ e. c .if1 .left (e ∙ sym (last-figure (c .before))))
 
 -- the row that is kept

@@ -6,6 +6,7 @@ use lib.Arith.{lt-of-le-ne}
 use mir.Syntax.{w64}
 use mir.Val.{SFits}
 use Rattle.signed.specs.Zed.{Tested, tested-plain, tested-nat}
+use Rattle.air.specs.Limits.{coldest, hottest}
 use Rattle.gas.specs.Heat.{heatOf}
 use Rattle.gas.proofs.Lines.{heats-rise, along-heat}
 use Rattle.gas.proofs.heats.at_temperature.Statement.{statement}
@@ -15,14 +16,14 @@ t-fits : (s : tie.Start) → SFits w64 (s .args .t .0)
 t-fits s = search needs
 
 -- the temperature, unsigned
-mk : (c : tie.After-to-u64) → Tested 200000 2000000 (c .before .before .before .args .t .0) (c .to-u64 .result)
-mk c = let s = c .before .before .before in tested-nat 200000 2000000 (t-fits s) (sym (s .pre .1)) refl (c .to-u64 .ensures)
+mk : (c : tie.After-to-u64) → Tested coldest hottest (c .before .before .before .args .t .0) (c .to-u64 .result)
+mk c = let s = c .before .before .before in tested-nat coldest hottest (t-fits s) (sym (s .pre .1)) refl (c .to-u64 .ensures)
 
-not-last : (c : tie.Else1) → c .before .to-u64 .result < 2000000
+not-last : (c : tie.Else1) → c .before .to-u64 .result < hottest
 not-last c = lt-of-le-ne (mk (c .before) .most) (c .if1 .left)
 
 to-u64-requires : tie.Need-to-u64-requires
-to-u64-requires c κs = let s = c .before .before in tested-plain 200000 2000000 (t-fits s) (sym (s .pre .1)) refl
+to-u64-requires c κs = let s = c .before .before in tested-plain coldest hottest (t-fits s) (sym (s .pre .1)) refl
 
 at-kelvin-requires : tie.Need-at-kelvin-requires
 at-kelvin-requires c κs = search needs

@@ -3,12 +3,12 @@ use mathlib.Core.Path.{_≡_, refl, _∙_}
 use mathlib.Core.Bool.{true}
 use lib.IntN.{pos}
 use Rattle.signed.specs.Zed.{up, inZ, in-range, apart, zed}
-use Rattle.air.specs.Limits.{fifteenDegrees}
+use Rattle.air.specs.Limits.{fifteenDegrees, coldest, hottest}
 use Rattle.gas.specs.BoundsLaws.{content-fits}
 use Rattle.gas.proofs.inner.content_at.Statement.{statement}
 use Rattle.gas.proofs.inner.content_at.Tie as tie
 
-covered-15 : inZ (pos 200000) (pos 2000000) (pos fifteenDegrees) ≡ true
+covered-15 : inZ (pos coldest) (pos hottest) (pos fifteenDegrees) ≡ true
 unfolding inZ
 covered-15 = refl
 
@@ -21,7 +21,7 @@ heat-at-requires-2 c κs = search needs
 less-requires : tie.Need-less-requires
 less-requires c κs =
     let s = c .before .before .before in
-    rw (c .heat-at2 .ensures, c .before .heat-at .ensures) (let i = in-range (pos 200000) (pos 2000000) (s .args .t .0) (s .pre .3) in content-fits (s .pre .0) (s .pre .1) (up (s .args .t .0)) (omega (zed, apart (s .args .t .0))) (omega (zed, apart (s .args .t .0))))
+    rw (c .heat-at2 .ensures, c .before .heat-at .ensures) (let i = in-range (pos coldest) (pos hottest) (s .args .t .0) (s .pre .3) in content-fits (s .pre .0) (s .pre .1) (up (s .args .t .0)) (omega (zed, apart (s .args .t .0))) (omega (zed, apart (s .args .t .0))))
 
 returns : tie.Need-returns
 returns c = c .less .ensures ∙ rw (c .before .heat-at2 .ensures, c .before .before .heat-at .ensures) refl

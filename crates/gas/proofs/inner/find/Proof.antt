@@ -8,6 +8,7 @@ use mir.Syntax.{w64}
 use Rattle.refusal.specs.Refusals.{here, after, clear, none}
 use Rattle.refusal.specs.declared.Refusal.the-variants.{Plain}
 use Rattle.signed.specs.Zed.{lt-read, zed}
+use Rattle.air.specs.Limits.{coldest, hottest}
 use Rattle.gas.specs.AnswersLaws.{unreached-told, reached-told}
 use Rattle.gas.specs.Sizes.{Ready}
 use Rattle.gas.specs.Heat.{gasHeat}
@@ -31,14 +32,14 @@ masses-ready c = let s = c .before .before .before in ready (s .pre .0) (s .pre 
 
 -- the test against the heat at 200 K
 at-200 : (c : tie.After-at-kelvin) {t : Bool} → let s = c .before .before .before .before in ltZ (toZ w64 (ofZ w64 (s .args .target .0))) (toZ w64 (ofZ w64 (c .at-kelvin .result .0))) ≡ t
-    → ltZ (s .args .target .0) (gasHeat document01 (s .args .sheet .now) (s .args .gas) 200000) ≡ t
+    → ltZ (s .args .target .0) (gasHeat document01 (s .args .sheet .now) (s .args .gas) coldest) ≡ t
 at-200 c e =
     let s = c .before .before .before .before in
     rw (c .at-kelvin .ensures, c .before .weigh .ensures) at (lt-read (target-fits s) (first-fits c) e)
 
 -- and against that at 2,000 K
 at-2000 : (c : tie.After-at-kelvin2) {t : Bool} → let s = c .before .before .before .before .before .before .before .before .before .before in ltZ (toZ w64 (ofZ w64 (c .at-kelvin2 .result .0))) (toZ w64 (ofZ w64 (s .args .target .0))) ≡ t
-    → ltZ (gasHeat document01 (s .args .sheet .now) (s .args .gas) 2000000) (s .args .target .0) ≡ t
+    → ltZ (gasHeat document01 (s .args .sheet .now) (s .args .gas) hottest) (s .args .target .0) ≡ t
 at-2000 c e =
     let s = c .before .before .before .before .before .before .before .before .before .before in
     rw (c .at-kelvin2 .ensures, c .before .before .before .before .before .before .before .weigh .ensures) at (lt-read (last-fits c) (target-fits s) e)

@@ -9,6 +9,8 @@ use lib.Signed.{_≤ℤ_, _<ℤ_}
 use mir.Val.{SFits}
 use mir.Syntax.{w64}
 use Rattle.signed.specs.Zed.{back, le-read, zed}
+use Rattle.rows.specs.Limits.{firstKelvin, lastKelvin}
+use Rattle.air.specs.Limits.{hottest}
 use Rattle.air.specs.Halving.{halving}
 use Rattle.air.specs.HalvingLaws.{at-most-eleven}
 use Rattle.gas.specs.Search.{heatFits}
@@ -27,20 +29,20 @@ used-fits : (s : tie.Start) → SFits w64 (s .args .gas .used)
 used-fits s = search needs
 
 -- the target against the heat at 2,000 K
-last-is : (c : tie.Then1) → let s = c .before .before .before .before .before .before .before in s .args .target .0 ≡ heatOf (s .args .gas) (s .args .t5 .now) 2000000
+last-is : (c : tie.Then1) → let s = c .before .before .before .before .before .before .before in s .args .target .0 ≡ heatOf (s .args .gas) (s .args .t5 .now) hottest
 last-is c = let s = c .before .before .before .before .before .before .before in omega (zed, le-read (last-fits s) (target-fits s) (c .if1 .taken), s .pre .0 .2, s .pre .1 .1)
 
-below-last : (c : tie.Else1) → let s = c .before .before .before .before .before .before .before in s .args .target .0 <ℤ heatOf (s .args .gas) (s .args .t5 .now) 2000000
+below-last : (c : tie.Else1) → let s = c .before .before .before .before .before .before .before in s .args .target .0 <ℤ heatOf (s .args .gas) (s .args .t5 .now) hottest
 below-last c = let s = c .before .before .before .before .before .before .before in omega (zed, le-read (last-fits s) (target-fits s) (c .if1 .left), s .pre .0 .2)
 
 -- the row that the halving rule keeps
-kept : (c : tie.After-halve) → let s = c .before .before .before .before .before .before .before .before .before .before .before in c .halve .result ≡ halving (heatFits (s .args .gas) (s .args .t5 .now) (s .args .target .0)) 200 2000 .row
+kept : (c : tie.After-halve) → let s = c .before .before .before .before .before .before .before .before .before .before .before in c .halve .result ≡ halving (heatFits (s .args .gas) (s .args .t5 .now) (s .args .target .0)) firstKelvin lastKelvin .row
 kept c = let s = c .before .before .before .before .before .before .before .before .before .before .before in (rw (back (used-fits s)) at (c .halve .ensures)) .row-is
 
-least : (c : tie.After-halve) → 200 ≤ c .halve .result
+least : (c : tie.After-halve) → firstKelvin ≤ c .halve .result
 least c = let s = c .before .before .before .before .before .before .before .before .before .before .before in row-least (s .pre .0 .0) (s .args .target .0) (s .pre .1 .0) (below-last (c .before .before .before .before)) (kept c)
 
-most : (c : tie.After-halve) → c .halve .result < 2000
+most : (c : tie.After-halve) → c .halve .result < lastKelvin
 most c = let s = c .before .before .before .before .before .before .before .before .before .before .before in row-most (s .pre .0 .0) (s .args .target .0) (s .pre .1 .0) (below-last (c .before .before .before .before)) (kept c)
 
 lay-requires : tie.Need-lay-requires

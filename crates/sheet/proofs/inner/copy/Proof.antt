@@ -4,15 +4,16 @@ use mathlib.Core.List.{List, _++_}
 use Prim.Native.Nat.{ℕ, _≤_, _-_}
 use native.Mathlib.Omega.{arith}
 use lib.ListN.{length, take, drop, set, getD, length-set}
+use Rattle.sheet.specs.Limits.{sheetNumbers}
 use Rattle.sheet.proofs.Copied.{copy-more, copy-whole}
 use Rattle.sheet.proofs.inner.copy.Statement.{statement}
 use Rattle.sheet.proofs.inner.copy.Tie as tie
 
 abbrev Inv-loop : tie.InvT-loop
-Inv-loop numbers list₀ i₀ list i = (i ≤ 5403) × (list ≡ take i numbers ++ drop i list₀) × (length list ≡ length list₀)
+Inv-loop numbers list₀ i₀ list i = (i ≤ sheetNumbers) × (list ≡ take i numbers ++ drop i list₀) × (length list ≡ length list₀)
 
 abbrev μ-loop : tie.MeasureT-loop
-μ-loop numbers list₀ i₀ list i = 5403 - i
+μ-loop numbers list₀ i₀ list i = sheetNumbers - i
 
 loop-holds : tie.Need-loop-holds Inv-loop μ-loop
 loop-holds c = (omega arith, refl, refl)

@@ -3,6 +3,7 @@ use mathlib.Core.Bool.{true, false}
 use Prim.Native.Nat.{_+_}
 use native.Mathlib.Omega.{arith}
 use borrow.Author.Needs.{needs}
+use Rattle.rows.specs.Limits.{firstKelvin}
 use Rattle.sheet.specs.Sheet.{overLimit}
 use Rattle.sheet.specs.SheetLaws.{bad-row-at}
 use Rattle.sheet.proofs.judging.bad_row.Statement.{statement}
@@ -15,7 +16,7 @@ over-limit-requires : tie.Need-over-limit-requires
 over-limit-requires c κs = search needs
 
 returns : tie.Need-returns
-returns c = let t : overLimit (c .before .before .before .args .list .now) (200 + c .before .before .before .args .row) ≡ true = sym (c .before .over-limit .ensures) ∙ c .if1 .taken in rw (bad-row-at (c .before .before .before .args .list .now) (c .before .before .before .args .row) (omega arith), t) refl
+returns c = let t : overLimit (c .before .before .before .args .list .now) (firstKelvin + c .before .before .before .args .row) ≡ true = sym (c .before .over-limit .ensures) ∙ c .if1 .taken in rw (bad-row-at (c .before .before .before .args .list .now) (c .before .before .before .args .row) (omega arith), t) refl
 
 sub-breaks-step : tie.Need-sub-breaks-step
 sub-breaks-step c = search needs
@@ -24,7 +25,7 @@ breaks-step-requires : tie.Need-breaks-step-requires
 breaks-step-requires c κs = search needs
 
 returns-2 : tie.Need-returns-2
-returns-2 c = let t : overLimit (c .before .before .before .before .args .list .now) (200 + c .before .before .before .before .args .row) ≡ false = sym (c .before .before .over-limit .ensures) ∙ c .before .if1 .left in rw (bad-row-at (c .before .before .before .before .args .list .now) (c .before .before .before .before .args .row) (omega arith), t) (c .breaks-step .ensures)
+returns-2 c = let t : overLimit (c .before .before .before .before .args .list .now) (firstKelvin + c .before .before .before .before .args .row) ≡ false = sym (c .before .before .over-limit .ensures) ∙ c .before .if1 .left in rw (bad-row-at (c .before .before .before .before .args .list .now) (c .before .before .before .before .args .row) (omega arith), t) (c .breaks-step .ensures)
 
 pub bad-row-spec : {M : Type 1} → statement M
 bad-row-spec =

@@ -4,16 +4,17 @@ use Prim.Native.Nat.{ℕ, _-_, _≤_, _<_}
 use native.Mathlib.Omega.{arith}
 use borrow.Author.Count.{below-more}
 use borrow.Author.Needs.{needs}
+use Rattle.rows.specs.Limits.{tableRows}
 use Rattle.sheet.specs.Sheet.{badRow}
 use Rattle.sheet.specs.SheetLaws.{first-bad-found, no-bad-row}
 use Rattle.sheet.proofs.judging.first_bad_row.Statement.{statement}
 use Rattle.sheet.proofs.judging.first_bad_row.Tie as tie
 
 abbrev Inv-loop : tie.InvT-loop
-Inv-loop list air row₀ row = (0 < row) × (row ≤ 1801) × ((i : ℕ) → i < row → badRow list i ≡ false)
+Inv-loop list air row₀ row = (0 < row) × (row ≤ tableRows) × ((i : ℕ) → i < row → badRow list i ≡ false)
 
 abbrev μ-loop : tie.MeasureT-loop
-μ-loop list air row₀ row = 1801 - row
+μ-loop list air row₀ row = tableRows - row
 
 over-limit-requires : tie.Need-over-limit-requires Inv-loop μ-loop
 over-limit-requires c κs = search needs

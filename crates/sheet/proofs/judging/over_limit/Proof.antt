@@ -3,6 +3,7 @@ use native.Mathlib.Omega.{arith}
 use lib.Dec.{ltb}
 use borrow.Author.Tests.{lt-ltb, le-ltb}
 use borrow.Author.Needs.{needs}
+use Rattle.sheet.specs.Limits.{mostFigure}
 use Rattle.sheet.specs.Sheet.{o2, co2, overLimit}
 use Rattle.sheet.proofs.judging.over_limit.Statement.{statement}
 use Rattle.sheet.proofs.judging.over_limit.Tie as tie
@@ -12,21 +13,21 @@ o2-at-requires c κs = search needs
 
 returns : tie.Need-returns
 unfolding overLimit
-returns c = simp (lt-ltb 200000 (o2 (c .before .before .before .args .list .now) (c .before .before .before .args .kelvin)) (omega arith))
+returns c = simp (lt-ltb mostFigure (o2 (c .before .before .before .args .list .now) (c .before .before .before .args .kelvin)) (omega arith))
 
 co2-at-requires : tie.Need-co2-at-requires
 co2-at-requires c κs = search needs
 
 returns-2 : tie.Need-returns-2
 unfolding overLimit
-returns-2 c = simp (le-ltb 200000 (o2 (c .before .before .before .before .before .args .list .now) (c .before .before .before .before .before .args .kelvin)) (omega arith), lt-ltb 200000 (co2 (c .before .before .before .before .before .args .list .now) (c .before .before .before .before .before .args .kelvin)) (omega arith))
+returns-2 c = simp (le-ltb mostFigure (o2 (c .before .before .before .before .before .args .list .now) (c .before .before .before .before .before .args .kelvin)) (omega arith), lt-ltb mostFigure (co2 (c .before .before .before .before .before .args .list .now) (c .before .before .before .before .before .args .kelvin)) (omega arith))
 
 h2o-at-requires : tie.Need-h2o-at-requires
 h2o-at-requires c κs = search needs
 
 returns-3 : tie.Need-returns-3
 unfolding overLimit
-returns-3 c = simp (le-ltb 200000 (o2 (c .before .before .before .before .before .before .args .list .now) (c .before .before .before .before .before .before .args .kelvin)) (omega arith), le-ltb 200000 (co2 (c .before .before .before .before .before .before .args .list .now) (c .before .before .before .before .before .before .args .kelvin)) (omega arith)) (ap (ltb 200000) (c .h2o-at .ensures .0))
+returns-3 c = simp (le-ltb mostFigure (o2 (c .before .before .before .before .before .before .args .list .now) (c .before .before .before .before .before .before .args .kelvin)) (omega arith), le-ltb mostFigure (co2 (c .before .before .before .before .before .before .args .list .now) (c .before .before .before .before .before .before .args .kelvin)) (omega arith)) (ap (ltb mostFigure) (c .h2o-at .ensures .0))
 
 pub over-limit-spec : {M : Type 1} → statement M
 over-limit-spec =

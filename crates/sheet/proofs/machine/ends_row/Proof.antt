@@ -1,24 +1,25 @@
 use native.Mathlib.Omega.{arith}
 use borrow.Author.Tests.{lt-ltb, le-ltb, eq-eqb, ne-eqb}
+use Rattle.rows.specs.Limits.{tableRows}
 use Rattle.sheet.specs.Machine.{endsRow}
 use Rattle.sheet.proofs.machine.ends_row.Statement.{statement}
 use Rattle.sheet.proofs.machine.ends_row.Tie as tie
 
 returns : tie.Need-returns
 unfolding endsRow
-returns c = simp (le-ltb (c .before .before .args .p .row) 1801 (omega arith))
+returns c = simp (le-ltb (c .before .before .args .p .row) tableRows (omega arith))
 
 returns-2 : tie.Need-returns-2
 unfolding endsRow
-returns-2 c = simp (lt-ltb (c .before .before .before .args .p .row) 1801 (omega arith), ne-eqb (c .before .before .before .args .b) 10 (omega arith))
+returns-2 c = simp (lt-ltb (c .before .before .before .args .p .row) tableRows (omega arith), ne-eqb (c .before .before .before .args .b) 10 (omega arith))
 
 returns-3 : tie.Need-returns-3
 unfolding endsRow
-returns-3 c = simp (lt-ltb (c .before .before .before .before .before .args .p .row) 1801 (omega arith), eq-eqb (c .before .before .before .before .before .args .b) 10 (omega arith), lt-ltb (c .before .before .before .before .before .args .p .field) 3 (omega arith))
+returns-3 c = simp (lt-ltb (c .before .before .before .before .before .args .p .row) tableRows (omega arith), eq-eqb (c .before .before .before .before .before .args .b) 10 (omega arith), lt-ltb (c .before .before .before .before .before .args .p .field) 3 (omega arith))
 
 returns-4 : tie.Need-returns-4
 unfolding endsRow
-returns-4 c = simp (lt-ltb (c .before .before .before .before .before .args .p .row) 1801 (omega arith), eq-eqb (c .before .before .before .before .before .args .b) 10 (omega arith), le-ltb (c .before .before .before .before .before .args .p .field) 3 (omega arith))
+returns-4 c = simp (lt-ltb (c .before .before .before .before .before .args .p .row) tableRows (omega arith), eq-eqb (c .before .before .before .before .before .args .b) 10 (omega arith), le-ltb (c .before .before .before .before .before .args .p .field) 3 (omega arith))
 
 pub ends-row-spec : {M : Type 1} → statement M
 ends-row-spec = tie.close (tie.spec returns returns-2 returns-3 returns-4)

@@ -5,6 +5,7 @@ use native.Mathlib.Omega.{arith}
 use lib.ListN.{length, take}
 use lib.Seq.{take-all}
 use Rattle.text.specs.Fold.{run}
+use Rattle.sheet.specs.Limits.{sheetNumbers}
 use Rattle.sheet.specs.declared.machine.State.the-variants.{Going}
 use Rattle.sheet.specs.Machine.{filled, fillByte}
 use Rattle.sheet.specs.MachineLaws.{length-stored}
@@ -13,7 +14,7 @@ use Rattle.sheet.proofs.machine.fill.Statement.{statement}
 use Rattle.sheet.proofs.machine.fill.Tie as tie
 
 abbrev Inv-loop : tie.InvT-loop
-Inv-loop text list₀ p₀ i₀ list p i = (i ≤ length text) × (length list ≡ 5403) × (filled (Going p) list ≡ run fillByte (filled (Going p₀) list₀) (take i text))
+Inv-loop text list₀ p₀ i₀ list p i = (i ≤ length text) × (length list ≡ sheetNumbers) × (filled (Going p) list ≡ run fillByte (filled (Going p₀) list₀) (take i text))
 
 abbrev μ-loop : tie.MeasureT-loop
 μ-loop text list₀ p₀ i₀ list p i = length text - i
@@ -26,7 +27,7 @@ after-byte c =
     let l = c .before .before .before .before .before .before .before .loop in
     byte-more (filled (Going (s .args .from)) (s .args .list .now)) (s .args .text .now) (l .i) (l .p) (l .list) (omega arith) (l .inv .2) (c .step-place .ensures) (c .before .before .before .store-place .ensures)
 
-still-long : (c : tie.After-step-place Inv-loop μ-loop) → length (c .before .before .before .store-place .last .1 .1 .0) ≡ 5403
+still-long : (c : tie.After-step-place Inv-loop μ-loop) → length (c .before .before .before .store-place .last .1 .1 .0) ≡ sheetNumbers
 still-long c =
     let l = c .before .before .before .before .before .before .before .loop in
     ap length (c .before .before .before .store-place .ensures) ∙ (length-stored (Going (l .p)) _ (l .list) ∙ l .inv .1)

@@ -3,6 +3,7 @@ use mathlib.Core.Bool.{true, false}
 use native.Mathlib.Omega.{arith}
 use borrow.Author.Tests.{lt-ltb, le-ltb}
 use borrow.Author.Needs.{needs}
+use Rattle.rows.specs.Limits.{tableRows}
 use Rattle.text.specs.Reading.{isDigit}
 use Rattle.text.specs.ReadingLaws.{digit-range}
 use Rattle.sheet.specs.Machine.{stepPlace}
@@ -11,7 +12,7 @@ use Rattle.sheet.proofs.machine.step_place.Tie as tie
 
 returns : tie.Need-returns
 unfolding stepPlace
-returns c = simp (le-ltb (c .before .before .args .p .row) 1801 (omega arith))
+returns c = simp (le-ltb (c .before .before .args .p .row) tableRows (omega arith))
 
 is-digit-requires : tie.Need-is-digit-requires
 is-digit-requires c κs = search needs
@@ -31,13 +32,13 @@ returns-2 : tie.Need-returns-2
 unfolding stepPlace
 returns-2 c =
     let t : isDigit (c .before .before .before .before .before .args .b) ≡ true = cc in
-    simp (lt-ltb (c .before .before .before .before .before .args .p .row) 1801 (omega arith), t) (c .step-digit .ensures)
+    simp (lt-ltb (c .before .before .before .before .before .args .p .row) tableRows (omega arith), t) (c .step-digit .ensures)
 
 returns-3 : tie.Need-returns-3
 unfolding stepPlace
 returns-3 c =
     let t : isDigit (c .before .before .before .before .before .args .b) ≡ false = cc in
-    simp (lt-ltb (c .before .before .before .before .before .args .p .row) 1801 (omega arith), t) (c .step-end .ensures)
+    simp (lt-ltb (c .before .before .before .before .before .args .p .row) tableRows (omega arith), t) (c .step-end .ensures)
 
 pub step-place-spec : {M : Type 1} → statement M
 step-place-spec =

@@ -5,6 +5,7 @@ use native.Mathlib.Numerals.{add-one, add-two}
 use native.Mathlib.Omega.{arith}
 use lib.ListN.{length-set}
 use borrow.Author.Needs.{needs}
+use Rattle.rows.specs.Limits.{tableRows}
 use Rattle.sheet.specs.Machine.{endsRow, storedPlace}
 use Rattle.sheet.specs.MachineLaws.{row-bound}
 use Rattle.sheet.proofs.machine.store_place.Statement.{statement}
@@ -13,7 +14,7 @@ use Rattle.sheet.proofs.machine.store_place.Tie as tie
 passed : (c : tie.After-struct-known) → endsRow (c .before .before .before .before .args .p) (c .before .before .before .before .args .b) ≡ true
 passed c = cc
 
-below : (c : tie.After-struct-known) → c .before .before .before .before .args .p .row < 1801
+below : (c : tie.After-struct-known) → c .before .before .before .before .args .p .row < tableRows
 below c = row-bound (c .before .before .before .before .args .p) (c .before .before .before .before .args .b) (passed c)
 
 ends-row-requires : tie.Need-ends-row-requires

@@ -1,0 +1,11 @@
+-- The limits of a sheet (document 01, "The gas sheet"), each said here once. The constants of src/lib.rt are proved to be these by the promises of the calls that test them.
+use Prim.Native.Nat.{ℕ, _*_}
+use Rattle.rows.specs.Limits.{tableRows}
+
+-- three numbers a row: 5,403
+abbrev pub sheetNumbers : ℕ
+sheetNumbers = 3 * tableRows
+
+-- no value is over it
+abbrev pub mostFigure : ℕ
+mostFigure = 200000
