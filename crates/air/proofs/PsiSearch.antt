@@ -27,7 +27,7 @@ use Rattle.air.specs.InverseLaws.{no-looks, looks-are, rest-least, row-k
 use Rattle.refusal.specs.Refusals.{gives, Line, toldBy, First, Clear}
 use Rattle.refusal.specs.RefusalsLaws.{refusal-given, values-given}
 use Rattle.air.specs.Answers.{psiValue, psiOrder, paperPsi, PsiInverse}
-use Rattle.air.specs.Search.{psiFits, PsiRow, psiFound, PsiSearched}
+use Rattle.air.specs.inner.Search.{psiFits, PsiRow, psiFound, PsiSearched}
 
 -- a figure of the lent column
 pub psi-figure : (k : ℕ) {rows : List ℕ} {r : ℕ} → rows ≡ rowsPsi → r ≡ column rows k → r ≡ airPsi k

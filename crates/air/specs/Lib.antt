@@ -3,7 +3,7 @@ pub mod Readings
 pub mod Halving
 pub mod Inverse
 pub mod Answers
-pub mod Search
+pub mod inner
 pub mod HalvingLaws
 pub mod ReadingsLaws
 pub mod InverseLaws

@@ -26,9 +26,11 @@ pub enum PsiAnswer {
 
 // the range of temperatures in mK: 200,000 to 2,000,000
 pub const COLDEST: i64 = 1000 * rows::FIRST_KELVIN as i64;
+
 pub const HOTTEST: i64 = 1000 * rows::LAST_KELVIN as i64;
 // and in whole kelvins
 const FIRST_KELVIN: i64 = rows::FIRST_KELVIN as i64;
+
 const LAST_KELVIN: i64 = rows::LAST_KELVIN as i64;
 // places for the looks of a search
 pub const LOOK_PLACES: usize = 11;

@@ -12,10 +12,17 @@ ghost use Rattle.rows.specs.Rows.{rowsPsi};
 ghost use Rattle.rows.specs.Table.{airPsi};
 ghost use Rattle.air.specs.Limits.{lookPlaces};
 ghost use Rattle.air.specs.Halving.{Room, Halved};
-ghost use Rattle.air.specs.Search.{psiFits, PsiRow, psiFound, PsiSearched};
+ghost use Rattle.air.specs.inner.Search.{psiFits, PsiRow, psiFound, PsiSearched};
 
 // The halving rule between lo and hi: the row that it keeps. The looks go into the list from `at` on.
-fn halve(lo: u64, hi: u64, target: u64, looks: &mut [u32; crate::LOOK_PLACES], at: usize, psi: &[u32; rows::ROWS]) -> u64
+fn halve(
+    lo: u64,
+    hi: u64,
+    target: u64,
+    looks: &mut [u32; crate::LOOK_PLACES],
+    at: usize,
+    psi: &[u32; rows::ROWS],
+) -> u64
     requires { ⌜ (firstKelvin ≤ lo) × (lo < hi) × (hi ≤ lastKelvin) × (now psi ≡ rowsPsi) × (length (now looks) ≡ lookPlaces) × Room (psiFits target) lo hi at (now looks) ⌝ }
     ensures { λ r. ⌜ Halved (psiFits target) lo hi at (now (looks .entry)) r (now (looks .exit)) ⌝ }
 {
@@ -52,7 +59,14 @@ pub(crate) fn psi_reached(target: u64, looks: &mut [u32], psi: &[u32; rows::ROWS
         inner::lay(&eleven, looks);
         return PsiAnswer::At(Millikelvin(crate::HOTTEST), 0);
     }
-    let row = halve(rows::FIRST_KELVIN, rows::LAST_KELVIN, target, &mut eleven, 0, psi);
+    let row = halve(
+        rows::FIRST_KELVIN,
+        rows::LAST_KELVIN,
+        target,
+        &mut eleven,
+        0,
+        psi,
+    );
     inner::lay(&eleven, looks);
     divide(
         target,

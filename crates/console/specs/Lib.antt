@@ -2,7 +2,7 @@ pub mod Limits
 pub mod Requests
 pub mod Marks
 pub mod Walks
-pub mod Shown
+pub mod inner
 pub mod Answers
 pub mod AnswersLaws
 pub mod WalksLaws

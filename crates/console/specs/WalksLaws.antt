@@ -47,7 +47,7 @@ use Rattle.console.specs.declared.walks.Layout.the-variants.{Line, Page}
 use Rattle.wording.specs.Texts.{toldText, used, courseText}
 use Rattle.console.specs.Requests.{misfitText}
 use Rattle.console.specs.Walks.{walkTold, stepText, stepsText, walkText, walkRequest, headerText, endText, printedWalk}
-use Rattle.console.specs.Shown.{stepsIn, shown, walkShown, layoutText, Holds}
+use Rattle.console.specs.inner.Shown.{stepsIn, shown, walkShown, layoutText, Holds}
 use Rattle.wording.specs.TextsLaws.{used-eleven}
 
 -- ---- the loop over the steps

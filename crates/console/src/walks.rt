@@ -14,7 +14,7 @@ ghost use Rattle.walk.specs.Lists.{lists};
 ghost use Rattle.walk.specs.Walk.{paperWalk, Walks};
 ghost use Rattle.wording.specs.Texts.{used};
 ghost use Rattle.console.specs.Walks.{walkTold, inLine, onPage, stepText, refusedLine, endText, walkRequest};
-ghost use Rattle.console.specs.Shown.{stepsIn, shown, walkShown, layoutText, Holds};
+ghost use Rattle.console.specs.inner.Shown.{stepsIn, shown, walkShown, layoutText, Holds};
 ghost use Rattle.console.specs.Answers.{Judged};
 
 // How a walk is shown: in one line, or on a page with a line for each step.
@@ -262,5 +262,14 @@ pub(crate) fn reply_walk(
         hydrogen: list[2],
     };
     let t = Millikelvin(list[3]);
-    show(Layout::Line, start, t, &list[START_NUMBERS..n], verdict, sheet, out, at)
+    show(
+        Layout::Line,
+        start,
+        t,
+        &list[START_NUMBERS..n],
+        verdict,
+        sheet,
+        out,
+        at,
+    )
 }

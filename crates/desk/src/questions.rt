@@ -22,6 +22,7 @@ ghost use Rattle.desk.specs.Questions.{keptLine, questionPage};
 
 // A start and the steps of a walk that is one step too long: where the list is full, document 01 refuses the walk with 13.
 const KEPT_LINES: u64 = walk::MOST_STEPS as u64 + 2;
+
 const KEPT_NUMBERS: usize = walk::STEP_NUMBERS * (walk::MOST_STEPS + 2);
 
 // A question so far: how many lines were good, the number of the line that was not four numbers or that had a carriage return, or an input that could not be read.
@@ -202,7 +203,11 @@ fn kept(lines: u64) -> usize
     requires { ⌜ 1 ≤ lines ⌝ }
     ensures { λ r. ⌜ (1 ≤ r) × (r ≡ min lines keptLines) ⌝ }
 {
-    if lines < KEPT_LINES { lines as usize } else { KEPT_LINES as usize }
+    if lines < KEPT_LINES {
+        lines as usize
+    } else {
+        KEPT_LINES as usize
+    }
 }
 
 // The printed walk of a question of so many lines.
@@ -224,7 +229,15 @@ fn put_page(
     };
     let t = Millikelvin(numbers[3]);
     let end = walk::STEP_NUMBERS * kept(lines);
-    console::inner::print_judged(start, t, &numbers[walk::STEP_NUMBERS..end], verdict, sheet, out, at)
+    console::inner::print_judged(
+        start,
+        t,
+        &numbers[walk::STEP_NUMBERS..end],
+        verdict,
+        sheet,
+        out,
+        at,
+    )
 }
 
 // Prints the walk of a question of so many lines.

@@ -22,8 +22,8 @@ use Rattle.gas.specs.declared.TemperatureAnswer.the-variants.{At}
 use Rattle.gas.specs.Heat.{heatOf, heatSlope}
 use Rattle.gas.specs.RestLaws.{row-of}
 use Rattle.gas.specs.HeatLaws.{heat-straight}
-use Rattle.gas.specs.Sizes.{Ready}
-use Rattle.gas.specs.Search.{heatFits, HoldsTarget, divided, Searched}
+use Rattle.gas.specs.inner.Sizes.{Ready}
+use Rattle.gas.specs.inner.Search.{heatFits, HoldsTarget, divided, Searched}
 use Rattle.gas.proofs.Lines.{rise-is, slope-of, heats-rise}
 
 -- ---- a look at the middle: the upper half is kept if the heat there is at most the target, else the lower

@@ -18,7 +18,7 @@ use Rattle.gas.specs.Burning.{document01, Burns}
 use Rattle.gas.specs.BurningLaws.{document01-sound}
 use Rattle.gas.specs.Heat.{massesOf, heatOf, heatSlope}
 use Rattle.gas.specs.HeatLaws.{heat-line, slope-most, air-outweighs, masses-sized}
-use Rattle.gas.specs.Sizes.{Ready, Rises, along}
+use Rattle.gas.specs.inner.Sizes.{Ready, Rises, along}
 
 module _ {a b : ℤ} (r : Rises a b) where
   pub rise-is : Is b (up a + 1000 * r .slope) (dn a)

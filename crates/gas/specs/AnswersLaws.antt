@@ -24,7 +24,7 @@ use Rattle.gas.specs.Burning.{Weights, gasOf, Burns}
 use Rattle.gas.specs.BurningLaws.{burns-of}
 use Rattle.gas.specs.Answers.{paperTemperature, chargeLines, temperatureLines, heatOrder, searchOrder, Inverse}
 use Rattle.refusal.specs.OrdersLaws.{stopped, passed, clear-order, clear-left, clear-right, given}
-use Rattle.gas.specs.Search.{Searched}
+use Rattle.gas.specs.inner.Search.{Searched}
 
 -- ---- a sheet, a charge and a temperature that are not refused
 accepted-of : (s : List ℕ) (ls : List Line) → Clear (sheetLines s ++ ls) → Accepted s

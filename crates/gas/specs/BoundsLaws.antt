@@ -33,7 +33,7 @@ use Rattle.gas.specs.Burning.{document01, oxygenUsed, lean, Burns, total
 use Rattle.gas.specs.BurningLaws.{document01-sound}
 use Rattle.gas.specs.Heat.{massesOf, heatOf, gasHeat, contentAbove15, specificContent}
 use Rattle.gas.specs.HeatLaws.{sum-parts, added-most, air-outweighs, masses-sized, per-pound, gas-straight}
-use Rattle.gas.specs.Sizes.{Sized}
+use Rattle.gas.specs.inner.Sizes.{Sized}
 
 -- ---- a column that never falls is never read lower at a higher temperature
 between-step : {col : ℕ → ℕ} → NeverFalls col → (T : ℕ) → coldest ≤ T → T < hottest → between col T ≤ between col (suc T)

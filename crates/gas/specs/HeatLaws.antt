@@ -24,7 +24,7 @@ use Rattle.gas.specs.declared.Gas.{Gas}
 use Rattle.gas.specs.declared.Masses.{Masses}
 use Rattle.gas.specs.Burning.{Weights, document01, Sound, Limits, oxygenUsed, lean, Burns}
 use Rattle.gas.specs.Heat.{massesOf, heatSum, heatOf, heatSlope, gasHeat}
-use Rattle.gas.specs.Sizes.{Sized, PerPound}
+use Rattle.gas.specs.inner.Sizes.{Sized, PerPound}
 
 -- ---- the paper's sum
 module _ (m : Masses) (a o c h : ℕ) where

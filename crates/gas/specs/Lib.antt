@@ -1,8 +1,7 @@
 pub mod Burning
 pub mod Heat
 pub mod Answers
-pub mod Sizes
-pub mod Search
+pub mod inner
 pub mod BurningLaws
 pub mod HeatLaws
 pub mod BoundsLaws

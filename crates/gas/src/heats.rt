@@ -12,7 +12,7 @@ ghost use Rattle.signed.specs.Zed.{up, inZ};
 ghost use Rattle.rows.specs.Limits.{firstKelvin, lastKelvin};
 ghost use Rattle.air.specs.Limits.{coldest, hottest};
 ghost use Rattle.gas.specs.Heat.{heatSum, heatOf};
-ghost use Rattle.gas.specs.Sizes.{Sized, PerPound, Ready, Rises, along as Sizes·along};
+ghost use Rattle.gas.specs.inner.Sizes.{Sized, PerPound, Ready, Rises, along as Sizes·along};
 
 // The heat of the masses, each at its own heat per pound.
 fn sum(gas: Masses, air: u64, o2: u64, co2: u64, h2o: u64) -> Heat
@@ -46,7 +46,12 @@ fn along(here: Heat, next: Heat, f: u64) -> Heat
 }
 
 // The heat at a temperature; at 2,000,000 mK no row is read but the last.
-pub(crate) fn at_temperature(gas: Masses, t: Millikelvin, sheet: &[u32], air: &[u32; rows::ROWS]) -> Heat
+pub(crate) fn at_temperature(
+    gas: Masses,
+    t: Millikelvin,
+    sheet: &[u32],
+    air: &[u32; rows::ROWS],
+) -> Heat
     requires { ⌜ Ready gas (now sheet) (now air) × (inZ (pos coldest) (pos hottest) (t .0) ≡ true) ⌝ }
     ensures { λ r. ⌜ r .0 ≡ heatOf gas (now (sheet .entry)) (up (t .0)) ⌝ }
 {

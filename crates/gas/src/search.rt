@@ -14,8 +14,8 @@ ghost use Rattle.rows.specs.Limits.{firstKelvin, lastKelvin};
 ghost use Rattle.air.specs.Limits.{lookPlaces, coldest, hottest};
 ghost use Rattle.air.specs.Halving.{Room, Halved};
 ghost use Rattle.gas.specs.Heat.{heatOf};
-ghost use Rattle.gas.specs.Sizes.{Ready};
-ghost use Rattle.gas.specs.Search.{masses, heatFits, HoldsTarget, divided, Searched};
+ghost use Rattle.gas.specs.inner.Sizes.{Ready};
+ghost use Rattle.gas.specs.inner.Search.{masses, heatFits, HoldsTarget, divided, Searched};
 
 // The halving rule between lo and hi over the heats of four masses: the row that it keeps. The looks go into the eleven places from `at` on.
 fn halve(

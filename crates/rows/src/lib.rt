@@ -10,7 +10,9 @@ ghost use Rattle.rows.specs.Table.{column};
 
 // the first and the last whole kelvin, and the rows from one to the other
 pub const FIRST_KELVIN: u64 = 200;
+
 pub const LAST_KELVIN: u64 = 2000;
+
 pub const ROWS: usize = (LAST_KELVIN - FIRST_KELVIN + 1) as usize;
 
 fn wide(x: u32) -> u64

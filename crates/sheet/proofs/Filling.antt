@@ -8,7 +8,7 @@ use Rattle.text.specs.FoldLaws.{run-more, run-append}
 use Rattle.sheet.specs.declared.machine.Place.{Place}
 use Rattle.sheet.specs.declared.machine.State.{State}
 use Rattle.sheet.specs.declared.machine.State.the-variants.{Going, Bad}
-use Rattle.sheet.specs.Machine.{stepPlace, storedPlace, Filled, filled, fillByte}
+use Rattle.sheet.specs.inner.Machine.{stepPlace, storedPlace, Filled, filled, fillByte}
 
 module _ (from : Filled) (text : List ℕ) where
   pub byte-more : (i : ℕ) (p : Place) (l : List ℕ) → i < length text → filled (Going p) l ≡ run fillByte from (take i text)

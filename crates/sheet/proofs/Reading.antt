@@ -14,7 +14,7 @@ use Rattle.sheet.specs.declared.machine.Place.{Place}
 use Rattle.sheet.specs.declared.machine.State.{State}
 use Rattle.sheet.specs.declared.machine.State.the-variants.{Going}
 use Rattle.sheet.specs.Answers.{sheetOf, noSheet, SheetRead}
-use Rattle.sheet.specs.Machine.{start, step, rowOf, wholeSheet, Filled, filled, fillByte}
+use Rattle.sheet.specs.inner.Machine.{start, step, rowOf, wholeSheet, Filled, filled, fillByte}
 use Rattle.sheet.specs.HeldLaws.{sound, same-state}
 use Rattle.sheet.specs.FirstBadLaws.{not-whole-bad}
 use Rattle.sheet.specs.FormLaws.{form-of}

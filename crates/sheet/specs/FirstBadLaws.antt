@@ -19,7 +19,7 @@ use Rattle.sheet.specs.declared.machine.Place.{Place}
 use Rattle.sheet.specs.declared.machine.State.{State}
 use Rattle.sheet.specs.declared.machine.State.the-variants.{Going, Bad}
 use Rattle.sheet.specs.Text.{rowText, rowsOf, sheetText, Numbers, Sheet, Begins, feeds, FirstBad, byte, short}
-use Rattle.sheet.specs.Machine.{begins, start, takesDigit, withDigit, stepPlace, step, rowOf, wholeSheet, Filled, filled, fillByte}
+use Rattle.sheet.specs.inner.Machine.{begins, start, takesDigit, withDigit, stepPlace, step, rowOf, wholeSheet, Filled, filled, fillByte}
 use Rattle.sheet.specs.MachineLaws.{place, rowStart, begins-some, begins-cases, begins-0, begins-1, begins-2, view, View, dies, digit, ends}
 use Rattle.sheet.specs.WholeLaws.{digit-step, number-run, kelvin-run, tab-0, tab-1, tab-2, feed-3, rows-run, complete}
 use Rattle.sheet.specs.HeldLaws.{Held, HeldBy, held-text, same-state, sofar, headOf, sound}

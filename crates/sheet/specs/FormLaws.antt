@@ -7,7 +7,7 @@ use native.Mathlib.Omega.{arith}
 use Rattle.text.specs.Fold.{run}
 use Rattle.sheet.specs.Text.{Sheet, FirstBad}
 use Rattle.sheet.specs.Answers.{Form, sheetOf, noSheet, breaks, badRowOf, numbersOf}
-use Rattle.sheet.specs.Machine.{start, step, rowOf, wholeSheet, Filled, filled, fillByte}
+use Rattle.sheet.specs.inner.Machine.{start, step, rowOf, wholeSheet, Filled, filled, fillByte}
 use Rattle.sheet.specs.WholeLaws.{complete}
 use Rattle.sheet.specs.HeldLaws.{sound}
 use Rattle.sheet.specs.FirstBadLaws.{sheet-whole, not-whole-bad, bad-row-is, blank, blank-full}

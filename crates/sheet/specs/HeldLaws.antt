@@ -19,7 +19,7 @@ use Rattle.sheet.specs.declared.machine.Place.{Place}
 use Rattle.sheet.specs.declared.machine.State.{State}
 use Rattle.sheet.specs.declared.machine.State.the-variants.{Going, Bad}
 use Rattle.sheet.specs.Text.{rowText, rowsOf, sheetText, Numbers, Sheet}
-use Rattle.sheet.specs.Machine.{begins, start, takesDigit, withDigit, whole, closer, after, endsField, step, wholeSheet, endsRow, storedPlace, stored, filled, fillByte}
+use Rattle.sheet.specs.inner.Machine.{begins, start, takesDigit, withDigit, whole, closer, after, endsField, step, wholeSheet, endsRow, storedPlace, stored, filled, fillByte}
 use Rattle.sheet.specs.MachineLaws.{place, begins-some, stored-same, takes-bound, view, View, dies, digit, ends}
 
 -- ---- what the machine holds of the text

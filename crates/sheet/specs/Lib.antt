@@ -3,7 +3,7 @@ pub mod Limits
 pub mod Text
 pub mod Sheet
 pub mod Answers
-pub mod Machine
+pub mod inner
 pub mod MachineLaws
 pub mod WholeLaws
 pub mod HeldLaws

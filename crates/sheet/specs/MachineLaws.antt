@@ -17,7 +17,7 @@ use Rattle.sheet.specs.Limits.{mostFigure}
 use Rattle.sheet.specs.declared.machine.Place.{Place}
 use Rattle.sheet.specs.declared.machine.State.{State}
 use Rattle.sheet.specs.declared.machine.State.the-variants.{Going, Bad}
-use Rattle.sheet.specs.Machine.{begins, takesDigit, withDigit, whole, closer, after, stepDigit, endsField, stepEnd, stepPlace, endsRow, storedPlace, stored}
+use Rattle.sheet.specs.inner.Machine.{begins, takesDigit, withDigit, whole, closer, after, stepDigit, endsField, stepEnd, stepPlace, endsRow, storedPlace, stored}
 
 -- a place, and the start of a row
 abbrev pub place : ℕ → ℕ → ℕ → Bool → ℕ → ℕ → Place

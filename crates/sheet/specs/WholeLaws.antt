@@ -19,7 +19,7 @@ use Rattle.sheet.specs.Limits.{mostFigure, sheetNumbers}
 use Rattle.sheet.specs.declared.machine.Place.{Place}
 use Rattle.sheet.specs.declared.machine.State.the-variants.{Going}
 use Rattle.sheet.specs.Text.{rowText, rowsOf, sheetText, Numbers}
-use Rattle.sheet.specs.Machine.{begins, start, takesDigit, withDigit, whole, closer, after, stepDigit, endsField, stepEnd, stepPlace, endsRow, storedPlace, filled, fillByte}
+use Rattle.sheet.specs.inner.Machine.{begins, start, takesDigit, withDigit, whole, closer, after, stepDigit, endsField, stepEnd, stepPlace, endsRow, storedPlace, filled, fillByte}
 use Rattle.sheet.specs.MachineLaws.{place, rowStart, begins-cases, begins-0, begins-1, begins-2, begins-3}
 
 -- the place with another number in its field

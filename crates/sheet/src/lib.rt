@@ -17,6 +17,7 @@ pub enum SheetAnswer {
 
 // the rows of a sheet, as a row is counted, and the kelvin of the first
 const ROWS: u32 = rows::ROWS as u32;
+
 const FIRST_KELVIN: u32 = rows::FIRST_KELVIN as u32;
 // three numbers a row
 pub const NUMBERS: usize = 3 * rows::ROWS;

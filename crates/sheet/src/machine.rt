@@ -1,4 +1,4 @@
-// The reader's machine: a place in the sheet by value, moved on by one byte at a time. Each function is one definition of specs/Machine.antt.
+// The reader's machine: a place in the sheet by value, moved on by one byte at a time. Each function is one definition of specs/inner/Machine.antt.
 ghost use mathlib.Core.Path.{_≡_};
 ghost use mathlib.Core.Bool.{Bool, cond};
 ghost use Prim.Native.Nat.{_+_, _*_, _<_};
@@ -6,7 +6,7 @@ ghost use lib.ListN.{length};
 ghost use Rattle.rows.specs.Limits.{tableRows};
 ghost use Rattle.text.specs.Fold.{run};
 ghost use Rattle.sheet.specs.Limits.{sheetNumbers};
-ghost use Rattle.sheet.specs.Machine.{begins as Machine·begins, takesDigit, withDigit, whole as Machine·whole, closer as Machine·closer, after as Machine·after, stepDigit, endsField, stepEnd, stepPlace, start as Machine·start, rowOf, wholeSheet, endsRow, storedPlace, filled, fillByte};
+ghost use Rattle.sheet.specs.inner.Machine.{begins as Machine·begins, takesDigit, withDigit, whole as Machine·whole, closer as Machine·closer, after as Machine·after, stepDigit, endsField, stepEnd, stepPlace, start as Machine·start, rowOf, wholeSheet, endsRow, storedPlace, filled, fillByte};
 
 // Where the reader stands: the row, the field in it, the number so far and whether it has a digit, and the row's first two numbers.
 pub struct Place {
@@ -49,7 +49,10 @@ fn takes_digit(p: Place, d: u8) -> bool
     ensures { λ r. ⌜ r ≡ takesDigit p d ⌝ }
 {
     if p.field == 0 {
-        begins(rows::FIRST_KELVIN + p.row as u64, 10 * (p.value as u64) + (d as u64))
+        begins(
+            rows::FIRST_KELVIN + p.row as u64,
+            10 * (p.value as u64) + (d as u64),
+        )
     } else {
         text::may_follow(crate::MOST_FIGURE, p.seen, p.value as u64, d)
     }

@@ -17,7 +17,7 @@ use Rattle.gas.specs.declared.Gas.{Gas}
 use Rattle.gas.specs.Burning.{document01, Limits, beyond, fuelMass}
 use Rattle.walk.specs.declared.Step.{Step}
 use Rattle.walk.specs.Step.{newGas, wrongAtoms, wrongHeat, fuelAdded}
-use Rattle.walk.specs.Work.{wrongCount, InReach}
+use Rattle.walk.specs.inner.Work.{wrongCount, InReach}
 
 -- ---- an order of one line
 pub line-held : {A : Type 0} (n : ℕ) (b : Bool) (a : A) {k : ℕ} → refuses k ≡ first (n when b ∷ []) a → b ≡ true

@@ -35,8 +35,8 @@ use Rattle.walk.specs.declared.stepping.Asking.{Asking}
 use Rattle.walk.specs.declared.stepping.Ask.the-variants.{For, Refused as AskRefused}
 use Rattle.walk.specs.declared.stepping.Stepped.the-variants.{Done, Refused}
 use Rattle.walk.specs.Step.{Asked, Out, held, newGas, burnHeat, stepHeat, wrongAtoms, wrongHeat, askedOf, asked, outOf, sought, judge}
-use Rattle.walk.specs.Work.{stateOf, Stands, InReach, AsksOf, burning, none, Asks, standing, ready, StepGives}
-use Rattle.walk.specs.Work as work
+use Rattle.walk.specs.inner.Work.{stateOf, Stands, InReach, AsksOf, burning, none, Asks, standing, ready, StepGives}
+use Rattle.walk.specs.inner.Work as work
 use Rattle.walk.proofs.Asking.{brought-most, fuel-small}
 
 -- a temperature in range, as a natural

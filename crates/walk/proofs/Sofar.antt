@@ -22,7 +22,7 @@ use Rattle.walk.specs.Lists.{lists, laid}
 use Rattle.walk.specs.declared.Step.{Step}
 use Rattle.walk.specs.Step.{State, Out, judge}
 use Rattle.walk.specs.Walk.{stepAt, stepsOf, run, onward, Trace, ended, cut, more, courseOf, paperWalk, Walks, temperaturesOf, restsOf, looksOf}
-use Rattle.walk.specs.Work.{stateOf, Stands, stepNo, Shown, StandsAfter, ready, StepGives}
+use Rattle.walk.specs.inner.Work.{stateOf, Stands, stepNo, Shown, StandsAfter, ready, StepGives}
 use Rattle.walk.specs.Demand3Laws.{eleven-places}
 use Rattle.walk.specs.RunLaws.{step-done}
 use Rattle.walk.proofs.Halves.{mk-range}

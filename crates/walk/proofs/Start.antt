@@ -32,7 +32,7 @@ use Rattle.walk.specs.declared.WalkAnswer.the-variants.{Refused}
 use Rattle.walk.specs.declared.stepping.Standing.{Standing}
 use Rattle.walk.specs.Lists.{Lists}
 use Rattle.walk.specs.Walk.{Trace, run, stepsOf, wrongSteps, shortLists, startLines, startState, walked, Walks}
-use Rattle.walk.specs.Work.{stateOf, Begun}
+use Rattle.walk.specs.inner.Work.{stateOf, Begun}
 
 -- a refused start writes nothing
 pub start-refused : {told : Told Trace} (r : Refusal) (lent : Lists) → told ≡ refused r → Walks told lent (Refused r) lent

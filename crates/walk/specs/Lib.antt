@@ -2,7 +2,7 @@ pub mod Limits
 pub mod Lists
 pub mod Step
 pub mod Walk
-pub mod Work
+pub mod inner
 pub mod Ledger
 pub mod RunLaws
 pub mod LedgerLaws

@@ -21,7 +21,7 @@ ghost use Rattle.gas.specs.Burning.{document01, Limits, Burns};
 ghost use Rattle.walk.specs.Limits.{stepNumbers, mostSteps};
 ghost use Rattle.walk.specs.Lists.{lists};
 ghost use Rattle.walk.specs.Walk.{chargeOf, ended, cut, courseOf, paperWalk, run, stepsOf, Walks};
-ghost use Rattle.walk.specs.Work.{stateOf, Stands, Begun, stepNo};
+ghost use Rattle.walk.specs.inner.Work.{stateOf, Stands, Begun, stepNo};
 
 // A charge as it comes back.
 fn charge_of(gas: Gas) -> Charge

@@ -20,7 +20,7 @@ ghost use Rattle.air.specs.Limits.{lookPlaces};
 ghost use Rattle.sheet.specs.Sheet.{Accepted};
 ghost use Rattle.gas.specs.Burning.{document01, Limits};
 ghost use Rattle.walk.specs.Step.{newGas, stepHeat, wrongAtoms, wrongHeat, asked, held, judge};
-ghost use Rattle.walk.specs.Work.{stateOf, Stands, wrongCount, paperAtoms, paperGrown, InReach, Asks, standing, StepGives};
+ghost use Rattle.walk.specs.inner.Work.{stateOf, Stands, wrongCount, paperAtoms, paperGrown, InReach, Asks, standing, StepGives};
 
 // Where a walk stands: its gas and temperature, with the gas heat there and at 15 °C, so that no step works either out again.
 pub(crate) struct Standing {

@@ -6,7 +6,7 @@ use Prim.Native.Nat.{_-_, ℕ, _<_}
 use native.Mathlib.Omega.{arith}
 use lib.ListN.{length-set}
 use Rattle.rows.proofs.figure.Reads as figure-reads
-use Rattle.air.specs.Search.{psiFits}
+use Rattle.air.specs.inner.Search.{psiFits}
 use Rattle.air.specs.Halving.{middle}
 use Rattle.air.specs.HalvingLaws.{Turn, to-upper, to-lower, ended, room-first, room-next, turned}
 use Rattle.air.proofs.PsiSearch.{psi-figure, psi-fits, psi-misses}

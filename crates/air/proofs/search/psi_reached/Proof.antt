@@ -8,7 +8,7 @@ use lib.ListN.{length}
 use lib.Seq.{length-sets}
 use Rattle.rows.specs.Limits.{lastKelvin}
 use Rattle.rows.specs.Table.{airPsi}
-use Rattle.air.specs.Search.{psiFits, PsiRow}
+use Rattle.air.specs.inner.Search.{psiFits, PsiRow}
 use Rattle.air.specs.HalvingLaws.{at-most-eleven}
 use Rattle.air.proofs.PsiSearch.{psi-figure, last-searched, row-found, searched}
 use Rattle.air.proofs.search.psi_reached.Statement.{statement}

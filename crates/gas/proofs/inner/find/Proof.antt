@@ -10,7 +10,7 @@ use Rattle.refusal.specs.declared.Refusal.the-variants.{Plain}
 use Rattle.signed.specs.Zed.{lt-read, zed}
 use Rattle.air.specs.Limits.{coldest, hottest}
 use Rattle.gas.specs.AnswersLaws.{unreached-told, reached-told}
-use Rattle.gas.specs.Sizes.{Ready}
+use Rattle.gas.specs.inner.Sizes.{Ready}
 use Rattle.gas.specs.Heat.{gasHeat}
 use Rattle.gas.specs.Burning.{document01}
 use Rattle.gas.specs.declared.TemperatureAnswer.the-variants.{Refused}

@@ -12,7 +12,7 @@ use Rattle.signed.specs.Zed.{back, le-read}
 use Rattle.air.specs.Halving.{middle}
 use Rattle.air.specs.HalvingLaws.{Turn, ended, room-first, room-next, turned}
 use Rattle.gas.specs.Heat.{heatOf}
-use Rattle.gas.specs.Search.{masses, heatFits}
+use Rattle.gas.specs.inner.Search.{masses, heatFits}
 use Rattle.gas.proofs.HeatSearch.{upper, lower}
 use Rattle.gas.proofs.search.halve.Reads as halve
 use Rattle.gas.proofs.search.halve.Kinds as halve-kinds

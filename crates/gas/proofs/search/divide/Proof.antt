@@ -7,7 +7,7 @@ use lib.IntN.{pos, _-ℤ_}
 use mir.Val.{SFits}
 use mir.Syntax.{w64}
 use Rattle.signed.specs.Zed.{up, back}
-use Rattle.gas.specs.Search.{divided}
+use Rattle.gas.specs.inner.Search.{divided}
 use Rattle.gas.proofs.HeatSearch.{over-asks, slope-positive, part-less, rest-less}
 use Rattle.gas.proofs.Lines.{gap-asks, slope-is}
 use Rattle.gas.proofs.search.divide.Statement.{statement}

@@ -13,7 +13,7 @@ use Rattle.rows.specs.Limits.{firstKelvin, lastKelvin}
 use Rattle.air.specs.Limits.{hottest}
 use Rattle.air.specs.Halving.{halving}
 use Rattle.air.specs.HalvingLaws.{at-most-eleven}
-use Rattle.gas.specs.Search.{heatFits}
+use Rattle.gas.specs.inner.Search.{heatFits}
 use Rattle.gas.specs.Heat.{heatOf}
 use Rattle.gas.proofs.HeatSearch.{at-last, row-least, row-most, holds-target, row-searched}
 use Rattle.gas.proofs.search.reached.Statement.{statement}

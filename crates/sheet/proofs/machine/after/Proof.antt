@@ -1,7 +1,7 @@
 use native.Mathlib.Omega.{arith}
 use borrow.Author.Tests.{lt-ltb, le-ltb}
 use borrow.Author.Needs.{needs}
-use Rattle.sheet.specs.Machine.{after}
+use Rattle.sheet.specs.inner.Machine.{after}
 use Rattle.sheet.proofs.machine.after.Statement.{statement}
 use Rattle.sheet.proofs.machine.after.Tie as tie
 

@@ -1,6 +1,6 @@
 use native.Mathlib.Omega.{arith}
 use borrow.Author.Tests.{lt-ltb, le-ltb, eq-eqb, ne-eqb}
-use Rattle.sheet.specs.Machine.{begins}
+use Rattle.sheet.specs.inner.Machine.{begins}
 use Rattle.sheet.proofs.machine.begins.Statement.{statement}
 use Rattle.sheet.proofs.machine.begins.Tie as tie
 

@@ -1,5 +1,5 @@
 use borrow.Author.Tests.{lt-ltb, le-ltb}
-use Rattle.sheet.specs.Machine.{closer}
+use Rattle.sheet.specs.inner.Machine.{closer}
 use Rattle.sheet.proofs.machine.closer.Statement.{statement}
 use Rattle.sheet.proofs.machine.closer.Tie as tie
 

@@ -1,7 +1,7 @@
 use mathlib.Core.Path.{_≡_, refl, sym, _∙_}
 use borrow.Author.Tests.{eq-eqb, ne-eqb}
 use borrow.Author.Needs.{needs}
-use Rattle.sheet.specs.Machine.{closer, endsField}
+use Rattle.sheet.specs.inner.Machine.{closer, endsField}
 use Rattle.sheet.proofs.machine.ends_field.Statement.{statement}
 use Rattle.sheet.proofs.machine.ends_field.Tie as tie
 

@@ -1,7 +1,7 @@
 use native.Mathlib.Omega.{arith}
 use borrow.Author.Tests.{lt-ltb, le-ltb, eq-eqb, ne-eqb}
 use Rattle.rows.specs.Limits.{tableRows}
-use Rattle.sheet.specs.Machine.{endsRow}
+use Rattle.sheet.specs.inner.Machine.{endsRow}
 use Rattle.sheet.proofs.machine.ends_row.Statement.{statement}
 use Rattle.sheet.proofs.machine.ends_row.Tie as tie
 

@@ -7,7 +7,7 @@ use lib.Seq.{take-all}
 use Rattle.text.specs.Fold.{run}
 use Rattle.sheet.specs.Limits.{sheetNumbers}
 use Rattle.sheet.specs.declared.machine.State.the-variants.{Going}
-use Rattle.sheet.specs.Machine.{filled, fillByte}
+use Rattle.sheet.specs.inner.Machine.{filled, fillByte}
 use Rattle.sheet.specs.MachineLaws.{length-stored}
 use Rattle.sheet.proofs.Filling.{byte-more, bad-whole}
 use Rattle.sheet.proofs.machine.fill.Statement.{statement}

@@ -3,7 +3,7 @@ use mathlib.Core.Bool.{true, false}
 use native.Mathlib.Omega.{arith}
 use borrow.Author.Needs.{needs}
 use Rattle.sheet.specs.declared.machine.State.the-variants.{Going}
-use Rattle.sheet.specs.Machine.{takesDigit, stepDigit}
+use Rattle.sheet.specs.inner.Machine.{takesDigit, stepDigit}
 use Rattle.sheet.specs.MachineLaws.{takes-bound}
 use Rattle.sheet.proofs.machine.step_digit.Statement.{statement}
 use Rattle.sheet.proofs.machine.step_digit.Tie as tie

@@ -2,7 +2,7 @@ use mathlib.Core.Path.{_≡_, refl, ap}
 use mathlib.Core.Bool.{true, false}
 use borrow.Author.Needs.{needs}
 use Rattle.sheet.specs.declared.machine.State.the-variants.{Going}
-use Rattle.sheet.specs.Machine.{endsField, stepEnd}
+use Rattle.sheet.specs.inner.Machine.{endsField, stepEnd}
 use Rattle.sheet.proofs.machine.step_end.Statement.{statement}
 use Rattle.sheet.proofs.machine.step_end.Tie as tie
 

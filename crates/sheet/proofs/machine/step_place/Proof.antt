@@ -6,7 +6,7 @@ use borrow.Author.Needs.{needs}
 use Rattle.rows.specs.Limits.{tableRows}
 use Rattle.text.specs.Reading.{isDigit}
 use Rattle.text.specs.ReadingLaws.{digit-range}
-use Rattle.sheet.specs.Machine.{stepPlace}
+use Rattle.sheet.specs.inner.Machine.{stepPlace}
 use Rattle.sheet.proofs.machine.step_place.Statement.{statement}
 use Rattle.sheet.proofs.machine.step_place.Tie as tie
 

@@ -6,7 +6,7 @@ use native.Mathlib.Omega.{arith}
 use lib.ListN.{length-set}
 use borrow.Author.Needs.{needs}
 use Rattle.rows.specs.Limits.{tableRows}
-use Rattle.sheet.specs.Machine.{endsRow, storedPlace}
+use Rattle.sheet.specs.inner.Machine.{endsRow, storedPlace}
 use Rattle.sheet.specs.MachineLaws.{row-bound}
 use Rattle.sheet.proofs.machine.store_place.Statement.{statement}
 use Rattle.sheet.proofs.machine.store_place.Tie as tie

@@ -1,7 +1,7 @@
 use native.Mathlib.Omega.{arith}
 use borrow.Author.Tests.{eq-eqb, ne-eqb}
 use borrow.Author.Needs.{needs}
-use Rattle.sheet.specs.Machine.{takesDigit}
+use Rattle.sheet.specs.inner.Machine.{takesDigit}
 use Rattle.sheet.proofs.machine.takes_digit.Statement.{statement}
 use Rattle.sheet.proofs.machine.takes_digit.Tie as tie
 

@@ -1,7 +1,7 @@
 use native.Mathlib.Omega.{arith}
 use borrow.Author.Tests.{eq-eqb, ne-eqb}
 use borrow.Author.Needs.{needs}
-use Rattle.sheet.specs.Machine.{whole}
+use Rattle.sheet.specs.inner.Machine.{whole}
 use Rattle.sheet.proofs.machine.whole.Statement.{statement}
 use Rattle.sheet.proofs.machine.whole.Tie as tie
 

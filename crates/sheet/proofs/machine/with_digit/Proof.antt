@@ -1,6 +1,6 @@
 use mathlib.Core.Path.{refl}
 use borrow.Author.Needs.{needs}
-use Rattle.sheet.specs.Machine.{withDigit}
+use Rattle.sheet.specs.inner.Machine.{withDigit}
 use Rattle.sheet.proofs.machine.with_digit.Statement.{statement}
 use Rattle.sheet.proofs.machine.with_digit.Tie as tie
 

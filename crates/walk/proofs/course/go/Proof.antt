@@ -3,7 +3,7 @@ use mathlib.Core.Path.{refl, _∙_}
 use Prim.Native.Nat.{_-_, _*_}
 use native.Mathlib.Omega.{arith}
 use Rattle.air.specs.Limits.{lookPlaces}
-use Rattle.walk.specs.Work.{stateOf}
+use Rattle.walk.specs.inner.Work.{stateOf}
 use Rattle.walk.proofs.Sofar.{Sofar, begin, turned, halted, finish}
 use Rattle.walk.proofs.Laid.{lent-room, length-back}
 use Rattle.walk.proofs.course.go.Statement.{statement}

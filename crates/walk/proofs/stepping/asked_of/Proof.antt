@@ -4,7 +4,7 @@ use mathlib.Core.Bool.{Bool, false}
 use mathlib.Core.Path.{_≡_, refl, sym, ap, _∙_}
 use Rattle.gas.specs.Burning.{document01, lean, Burns}
 use Rattle.signed.specs.Zed.{inZ}
-use Rattle.walk.specs.Work.{paperGrown}
+use Rattle.walk.specs.inner.Work.{paperGrown}
 use Rattle.walk.specs.Step.{newGas, wrongAtoms}
 use Rattle.walk.proofs.Halves.{asks-4, asks-7, asks-5, asks-for, in-reach}
 use Rattle.walk.proofs.Asking.{line-held, line-clear, new-limits}

@@ -7,7 +7,7 @@ use mir.Val.{toZ, ofZ, SFits}
 use mir.Syntax.{w64}
 use Rattle.signed.specs.Zed.{up, back}
 use Rattle.refusal.specs.Refusals.{Told, _when_, first, gives}
-use Rattle.walk.specs.Work.{wrongCount, paperAtoms}
+use Rattle.walk.specs.inner.Work.{wrongCount, paperAtoms}
 use Rattle.walk.proofs.Asking.{line-held, line-clear, wrong-carbon, wrong-hydrogen, right-atoms, new-gas}
 use Rattle.walk.proofs.stepping.grow.Statement.{statement}
 use Rattle.walk.proofs.stepping.grow.Tie as tie

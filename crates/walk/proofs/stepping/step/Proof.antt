@@ -5,7 +5,7 @@ use Rattle.gas.specs.Answers.{Inverse}
 use Rattle.gas.specs.Heat.{gasHeat}
 use Rattle.gas.specs.Burning.{document01, Burns}
 use Rattle.gas.specs.declared.TemperatureAnswer.the-variants.{At}
-use Rattle.walk.specs.Work.{stateOf, AsksOf, burning, Asks}
+use Rattle.walk.specs.inner.Work.{stateOf, AsksOf, burning, Asks}
 use Rattle.walk.specs.Step.{asked, held}
 use Rattle.walk.specs.declared.stepping.Ask.the-variants.{For}
 use Rattle.walk.specs.declared.stepping.Asking.{Asking}

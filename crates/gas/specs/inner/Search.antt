@@ -15,7 +15,7 @@ use Rattle.gas.specs.declared.Masses.{Masses}
 use Rattle.gas.specs.declared.TemperatureAnswer.{TemperatureAnswer}
 use Rattle.gas.specs.declared.TemperatureAnswer.the-variants.{At}
 use Rattle.gas.specs.Heat.{heatOf}
-use Rattle.gas.specs.Sizes.{Rises}
+use Rattle.gas.specs.inner.Sizes.{Rises}
 
 -- the masses of a search, which hands them down one by one
 abbrev pub masses : ℕ → ℤ → ℕ → ℕ → Masses
