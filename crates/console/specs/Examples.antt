@@ -15,6 +15,7 @@ use Rattle.sheet.specs.declared.SheetAnswer.the-variants.{Good, Refused}
 use Rattle.gas.specs.declared.Charge.{Charge}
 use Rattle.gas.specs.Burning.{document01, beyond, lean, oxygenUsed}
 use Rattle.gas.specs.Examples.{charge}
+use Rattle.walk.specs.Limits.{mostSteps, mostLooks}
 use Rattle.walk.specs.Examples.{printedSteps, told-printed, first-looks, second-looks}
 use Rattle.walk.specs.Walk.{ended, run, stepsOf, startLines, startState, walked}
 use Rattle.console.specs.Walks.{walkTold, headerText, refusedLine, printedWalk}
@@ -30,13 +31,13 @@ module _ {s : List ℕ} (ok : Accepted s) where
   pub printed-page : printedWalk (walkTold Good s (charge 1 0 0) (pos 200000) printedSteps) ≡ printedPage
   unfolding printedWalk decimal
   printed-page =
-      ap printedWalk (told-printed ok (replicate 64 (pos 0)) (replicate 64 (pos 0)) (replicate 704 0) (lit≤ tt) (lit≤ tt) (lit≤ tt))
+      ap printedWalk (told-printed ok (replicate mostSteps (pos 0)) (replicate mostSteps (pos 0)) (replicate mostLooks 0) (lit≤ tt) (lit≤ tt) (lit≤ tt))
       ∙ rw (first-looks ok, second-looks ok) refl
 
   pub header-alone : printedWalk (walkTold Good s (charge 1 0 0) (pos 200000) []) ≡ headerText
   unfolding printedWalk walked run stepsOf beyond inZ lean oxygenUsed
   header-alone =
-      ap printedWalk (past-sheet (startLines document01 (charge 1 0 0) (pos 200000) 0 64 64 704) (record { outs = []; end = ended (startState (charge 1 0 0) (pos 200000)) }) ok)
+      ap printedWalk (past-sheet (startLines document01 (charge 1 0 0) (pos 200000) 0 mostSteps mostSteps mostLooks) (record { outs = []; end = ended (startState (charge 1 0 0) (pos 200000)) }) ok)
 
 pub refused-page : (s : List ℕ) (ch : Charge) (mk : ℤ) (numbers : List ℤ) (row : ℕ) → printedWalk (walkTold (Refused (At 3 row)) s ch mk numbers) ≡ headerText ++ refusedLine 3
 unfolding printedWalk

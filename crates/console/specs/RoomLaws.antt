@@ -541,8 +541,8 @@ state-most st h =
     (omega (arith, number-most (g .air) (omega arith), number-most (g .carbon) (omega arith), number-most (g .hydrogen) (omega arith), number-most (st .mk) (omega arith)))
 
 course-most : (n : ℕ) (e : End) → n ≤ mostSteps → Ends e → length (courseText (courseOf n e)) ≤ 200
-course-most n (ended st) h (at-last k) = simp length-append (omega (arith, small-most n (omega arith), simp length-append at (state-most st k)))
-course-most n (cut m st) h (at-step l k) = simp length-append (omega (arith, small-most n (omega arith), small-most m l, simp length-append at (state-most st k)))
+course-most n (ended st) h (at-last k) = simp length-append (omega (arith, row-most n (omega arith), simp length-append at (state-most st k)))
+course-most n (cut m st) h (at-step l k) = simp length-append (omega (arith, row-most n (omega arith), small-most m l, simp length-append at (state-most st k)))
 
 module _ (s : List ℕ) (ch : Charge) (mk : ℤ) (numbers : List ℤ) where
   abbrev lines : List Line
@@ -591,7 +591,7 @@ lines-most (one-more {o} {os} m k) i h =
     simp length-append
     (omega (
       arith,
-      small-most i (omega arith),
+      row-most i (omega arith),
       number-most (o .state .mk) (let w = m .warm in omega arith),
       field-most (o .rests) (m .left),
       small-most (length (o .seen)) n,

@@ -15,6 +15,11 @@ ghost use Rattle.text.specs.Put.{Put};
 ghost use Rattle.console.specs.Answers.{answerOf};
 ghost use Rattle.console.specs.Walks.{walkTold, printedWalk};
 
+// the room for an answer line, and for a printed walk
+pub const ANSWER_ROOM: usize = 8192;
+
+pub const PAGE_ROOM: usize = 4096;
+
 // Puts the answer to a request line, its line feed with it, as far as there is room. Answers the place after it.
 pub fn answer(line: &[u8], sheet: &[u32], out: &mut [u8], at: usize) -> usize
     ensures { λ r. ⌜ Put (answerOf SheetAnswer.Good (now (sheet .entry)) (now (line .entry))) (now (out .entry)) at r (now (out .exit)) ⌝ }

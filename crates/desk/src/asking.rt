@@ -6,11 +6,16 @@ use sheet::SheetAnswer;
 use stream::Got;
 use stream::Held;
 use stream::Output;
+ghost use mathlib.Core.Path.{_≡_};
 ghost use Prim.Native.Nat.{_+_, _*_, _≤_};
 ghost use lib.ListN.{length};
 ghost use Rattle.console.specs.Limits.{answerRoom};
 ghost use Rattle.stream.specs.Writing.{Free, Leaves};
 ghost use Rattle.console.specs.Answers.{Judged};
+ghost use Rattle.desk.specs.Limits.{outputRoom};
+
+// answers are written where they fill half of this
+const OUTPUT: usize = 8 * console::ANSWER_ROOM;
 
 // A line that is still read, with the output.
 struct Turn {
@@ -18,13 +23,20 @@ struct Turn {
     output: Output,
 }
 
+// Places for the answers.
+fn output() -> [u8; OUTPUT]
+    ensures { λ r. ⌜ outputRoom ≡ length r ⌝ }
+{
+    [0; OUTPUT]
+}
+
 // Answers every line of standard input.
 pub(crate) fn ask(verdict: SheetAnswer, sheet: &[u32])
     requires { ⌜ Judged verdict (now sheet) ⌝ }
 {
     let mut piece = io::large_buffer();
-    let mut line = io::large_buffer();
-    let mut out = io::large_buffer();
+    let mut line = lines::places();
+    let mut out = output();
     let turn = answer_input(verdict, sheet, &mut piece, &mut line, &mut out);
     answer_last(turn, &line, verdict, sheet, &mut out);
 }

@@ -12,10 +12,11 @@ use sheet::SheetAnswer;
 use stream::Got;
 use stream::Held;
 use stream::Output;
-ghost use Prim.Native.Nat.{_≤_, min};
+ghost use Prim.Native.Nat.{_+_, _≤_, min};
 ghost use mathlib.Core.Path.{_≡_};
 ghost use lib.ListN.{length, set};
 ghost use Rattle.text.specs.Put.{Put};
+ghost use Rattle.console.specs.Limits.{pageRoom};
 ghost use Rattle.console.specs.Answers.{Judged};
 ghost use Rattle.desk.specs.Limits.{keptNumbers, keptLines};
 ghost use Rattle.desk.specs.Questions.{keptLine, questionPage};
@@ -68,7 +69,7 @@ fn print_from(fd: i32, name: &[u8], verdict: SheetAnswer, sheet: &[u32])
     requires { ⌜ Judged verdict (now sheet) ⌝ }
 {
     let mut piece = io::large_buffer();
-    let mut line = io::large_buffer();
+    let mut line = lines::places();
     let mut numbers = [0i64; KEPT_NUMBERS];
     match read_all(fd, name, &mut piece, &mut line, &mut numbers) {
         Question::Good(lines) => {
@@ -219,7 +220,7 @@ fn put_page(
     out: &mut [u8],
     at: usize,
 ) -> usize
-    requires { ⌜ Judged verdict (now sheet) × (length (now numbers) ≡ keptNumbers) × (1 ≤ lines) ⌝ }
+    requires { ⌜ Judged verdict (now sheet) × (length (now numbers) ≡ keptNumbers) × (1 ≤ lines) × (at + pageRoom ≤ length (now out)) ⌝ }
     ensures { λ r. ⌜ Put (questionPage verdict (now (sheet .entry)) lines (now (numbers .entry))) (now (out .entry)) at r (now (out .exit)) ⌝ }
 {
     let start = Charge {
@@ -240,11 +241,18 @@ fn put_page(
     )
 }
 
+// Places for a printed walk.
+fn page() -> [u8; console::PAGE_ROOM]
+    ensures { λ r. ⌜ pageRoom ≡ length r ⌝ }
+{
+    [0; console::PAGE_ROOM]
+}
+
 // Prints the walk of a question of so many lines.
 fn print_walk(lines: u64, numbers: &[i64], verdict: SheetAnswer, sheet: &[u32])
     requires { ⌜ Judged verdict (now sheet) × (length (now numbers) ≡ keptNumbers) × (1 ≤ lines) ⌝ }
 {
-    let mut out = io::buffer();
+    let mut out = page();
     let next = put_page(lines, numbers, verdict, sheet, &mut out, 0);
     stream::flush(&out, Output::At(next));
     let end = walk::STEP_NUMBERS * kept(lines);
