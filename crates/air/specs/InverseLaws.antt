@@ -76,7 +76,7 @@ module _ (v : ℕ → ℤ) (t : ℤ) (h : v coldest ≤ℤ t) where
 
   pub temperature-most : temperature v t ≤ hottest
   unfolding temperature
-  temperature-most = highest-most (fits v t) 200000 hottest (lit≤ tt) first-fits
+  temperature-most = highest-most (fits v t) coldest hottest (lit≤ tt) first-fits
 
   pub temperature-fits : v (temperature v t) ≤ℤ t
   unfolding temperature
