@@ -14,7 +14,14 @@ ghost use Rattle.air.specs.Halving.{Room, Halved};
 ghost use Rattle.air.specs.Search.{psiFits, PsiRow, psiFound, PsiSearched};
 
 // The halving rule between lo and hi: the row that it keeps. The looks go into the list from `at` on.
-fn halve(lo: u64, hi: u64, target: u64, looks: &mut [u32; crate::LOOK_PLACES], at: usize, psi: &[u32; 1801]) -> u64
+fn halve(
+    lo: u64,
+    hi: u64,
+    target: u64,
+    looks: &mut [u32; crate::LOOK_PLACES],
+    at: usize,
+    psi: &[u32; 1801],
+) -> u64
     requires { ⌜ (200 ≤ lo) × (lo < hi) × (hi ≤ 2000) × (now psi ≡ rowsPsi) × (length (now looks) ≡ lookPlaces) × Room (psiFits target) lo hi at (now looks) ⌝ }
     ensures { λ r. ⌜ Halved (psiFits target) lo hi at (now (looks .entry)) r (now (looks .exit)) ⌝ }
 {

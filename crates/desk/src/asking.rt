@@ -10,7 +10,7 @@ ghost use Prim.Native.Nat.{_+_, _*_, _≤_};
 ghost use lib.ListN.{length};
 ghost use Rattle.console.specs.Limits.{answerRoom};
 ghost use Rattle.stream.specs.Writing.{Free, Leaves};
-ghost use Rattle.console.specs.Answers.{Judged};
+ghost use Rattle.console.specs.Answers.{Columns, Judged};
 
 // A line that is still read, with the output.
 struct Turn {
@@ -19,14 +19,29 @@ struct Turn {
 }
 
 // Answers every line of standard input.
-pub(crate) fn ask(verdict: SheetAnswer, sheet: &[u32])
-    requires { ⌜ Judged verdict (now sheet) ⌝ }
+pub(crate) fn ask(
+    verdict: SheetAnswer,
+    sheet: &[u32],
+    air: &[u32; 1801],
+    psis: &[u32; 1801],
+    cps: &[u32; 1801],
+)
+    requires { ⌜ Judged verdict (now sheet) × Columns (now air) (now psis) (now cps) ⌝ }
 {
     let mut piece = io::large_buffer();
     let mut line = io::large_buffer();
     let mut out = io::large_buffer();
-    let turn = answer_input(verdict, sheet, &mut piece, &mut line, &mut out);
-    answer_last(turn, &line, verdict, sheet, &mut out);
+    let turn = answer_input(
+        verdict,
+        sheet,
+        air,
+        psis,
+        cps,
+        &mut piece,
+        &mut line,
+        &mut out,
+    );
+    answer_last(turn, &line, verdict, sheet, air, psis, cps, &mut out);
 }
 
 // Answers the lines of standard input that a line feed ends. A proved loop has to end, and nothing says that the input does: so it counts its turns down, from a number that
@@ -34,11 +49,14 @@ pub(crate) fn ask(verdict: SheetAnswer, sheet: &[u32])
 fn answer_input(
     verdict: SheetAnswer,
     sheet: &[u32],
+    air: &[u32; 1801],
+    psis: &[u32; 1801],
+    cps: &[u32; 1801],
     piece: &mut [u8],
     line: &mut [u8],
     out: &mut [u8],
 ) -> Turn
-    requires { ⌜ Judged verdict (now sheet) × (2 * answerRoom ≤ length (now out)) ⌝ }
+    requires { ⌜ Judged verdict (now sheet) × (2 * answerRoom ≤ length (now out)) × Columns (now air) (now psis) (now cps) ⌝ }
     ensures { λ r. ⌜ Free (r .output) (now (out .exit)) ⌝ }
 {
     let mut turn = Turn {
@@ -50,7 +68,7 @@ fn answer_input(
         turns -= 1;
         match stream::read_some(STDIN_FILENO, b"standard input", piece) {
             Got::Bytes(n) => {
-                turn = answer_piece(turn, &piece[..n], verdict, sheet, line, out);
+                turn = answer_piece(turn, &piece[..n], verdict, sheet, air, psis, cps, line, out);
                 let output = turn.output;
                 turns = stream::turns_left(turns, output);
             }
@@ -76,10 +94,13 @@ fn answer_piece(
     piece: &[u8],
     verdict: SheetAnswer,
     sheet: &[u32],
+    air: &[u32; 1801],
+    psis: &[u32; 1801],
+    cps: &[u32; 1801],
     line: &mut [u8],
     out: &mut [u8],
 ) -> Turn
-    requires { ⌜ Judged verdict (now sheet) × (2 * answerRoom ≤ length (now out)) × Free (turn .output) (now out) ⌝ }
+    requires { ⌜ Judged verdict (now sheet) × (2 * answerRoom ≤ length (now out)) × Free (turn .output) (now out) × Columns (now air) (now psis) (now cps) ⌝ }
     ensures { λ r. ⌜ Leaves (turn .output) (now (out .entry)) (r .output) (now (out .exit)) ⌝ }
 {
     let mut held = turn.held;
@@ -90,7 +111,7 @@ fn answer_piece(
         held = taken.held;
         from = taken.next;
         if taken.whole {
-            output = answer_held(held, line, verdict, sheet, out, output);
+            output = answer_held(held, line, verdict, sheet, air, psis, cps, out, output);
             held = Held::Bytes(0);
         }
     }
@@ -101,8 +122,17 @@ fn answer_piece(
 }
 
 // Answers a last line that no line feed ended.
-fn answer_last(turn: Turn, line: &[u8], verdict: SheetAnswer, sheet: &[u32], out: &mut [u8])
-    requires { ⌜ Judged verdict (now sheet) × (2 * answerRoom ≤ length (now out)) × Free (turn .output) (now out) ⌝ }
+fn answer_last(
+    turn: Turn,
+    line: &[u8],
+    verdict: SheetAnswer,
+    sheet: &[u32],
+    air: &[u32; 1801],
+    psis: &[u32; 1801],
+    cps: &[u32; 1801],
+    out: &mut [u8],
+)
+    requires { ⌜ Judged verdict (now sheet) × (2 * answerRoom ≤ length (now out)) × Free (turn .output) (now out) × Columns (now air) (now psis) (now cps) ⌝ }
 {
     let held = turn.held;
     if let Held::Bytes(n) = held {
@@ -111,7 +141,7 @@ fn answer_last(turn: Turn, line: &[u8], verdict: SheetAnswer, sheet: &[u32], out
         }
     }
     let output = turn.output;
-    let last = answer_held(held, line, verdict, sheet, out, output);
+    let last = answer_held(held, line, verdict, sheet, air, psis, cps, out, output);
     stream::flush(out, last);
 }
 
@@ -121,16 +151,19 @@ fn answer_held(
     line: &[u8],
     verdict: SheetAnswer,
     sheet: &[u32],
+    air: &[u32; 1801],
+    psis: &[u32; 1801],
+    cps: &[u32; 1801],
     out: &mut [u8],
     output: Output,
 ) -> Output
-    requires { ⌜ Judged verdict (now sheet) × (2 * answerRoom ≤ length (now out)) × Free output (now out) ⌝ }
+    requires { ⌜ Judged verdict (now sheet) × (2 * answerRoom ≤ length (now out)) × Free output (now out) × Columns (now air) (now psis) (now cps) ⌝ }
     ensures { λ r. ⌜ Leaves output (now (out .entry)) r (now (out .exit)) ⌝ }
 {
     let Output::At(at) = output else {
         return Output::Closed;
     };
-    let next = put_answer(held, line, verdict, sheet, out, at);
+    let next = put_answer(held, line, verdict, sheet, air, psis, cps, out, at);
     stream::make_room(out, Output::At(next))
 }
 
@@ -140,15 +173,18 @@ fn put_answer(
     line: &[u8],
     verdict: SheetAnswer,
     sheet: &[u32],
+    air: &[u32; 1801],
+    psis: &[u32; 1801],
+    cps: &[u32; 1801],
     out: &mut [u8],
     at: usize,
 ) -> usize
-    requires { ⌜ Judged verdict (now sheet) × (at + answerRoom ≤ length (now out)) ⌝ }
+    requires { ⌜ Judged verdict (now sheet) × (at + answerRoom ≤ length (now out)) × Columns (now air) (now psis) (now cps) ⌝ }
 {
     match held {
         Held::Bytes(n) => {
             let end = lines::end_of(n, line);
-            console::inner::answer_judged(&line[0..end], verdict, sheet, out, at)
+            console::inner::answer_judged(&line[0..end], verdict, sheet, air, psis, cps, out, at)
         }
         Held::Over => text::put_text(b"error\tthe line is too long\n", out, at),
     }

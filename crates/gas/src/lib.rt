@@ -6,9 +6,8 @@ mod heats;
 pub mod inner;
 mod search;
 
-pub use burning::MOST_ATOMS;
-
 use air::Millikelvin;
+pub use burning::MOST_ATOMS;
 use inner::Admitted;
 use refusal::Refusal;
 use sheet::SheetAnswer;

@@ -33,7 +33,9 @@ pub enum WalkAnswer {
 pub const STEP_NUMBERS: usize = 4;
 // steps of the longest walk, their numbers, and the places for their looks
 pub const MOST_STEPS: usize = 64;
+
 pub const MOST_NUMBERS: usize = STEP_NUMBERS * MOST_STEPS;
+
 pub const MOST_LOOKS: usize = air::LOOK_PLACES * MOST_STEPS;
 
 // steps list not a multiple of four long, or over the most numbers
