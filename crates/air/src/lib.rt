@@ -50,48 +50,30 @@ pub const LIST_SHORT: u32 = 10;
 pub fn heat(t: Millikelvin) -> Reading
     ensures { λ r. ⌜ paperReading r ≡ heatTold (t .0) ⌝ }
 {
-    if !inner::covered(t) {
-        return Reading::Refused(Refusal::Plain(TEMPERATURE));
-    }
     let heats = rows::columns::heat_column();
-    Reading::Is(inner::read(&heats, signed::to_u64(t.0)))
+    inner::heat_lent(t, &heats)
 }
 
 // psi at a temperature, in 0.0000001.
 pub fn psi(t: Millikelvin) -> Reading
     ensures { λ r. ⌜ paperReading r ≡ psiTold (t .0) ⌝ }
 {
-    if !inner::covered(t) {
-        return Reading::Refused(Refusal::Plain(TEMPERATURE));
-    }
     let psis = rows::columns::psi_column();
-    Reading::Is(inner::read(&psis, signed::to_u64(t.0)))
+    inner::psi_lent(t, &psis)
 }
 
 // Cp at a whole number of kelvins, in ten-thousandths, as printed.
 pub fn cp(kelvin: i64) -> Reading
     ensures { λ r. ⌜ paperReading r ≡ cpTold kelvin ⌝ }
 {
-    if !signed::inside(kelvin, FIRST_KELVIN, LAST_KELVIN) {
-        return Reading::Refused(Refusal::Plain(TEMPERATURE));
-    }
     let printed = rows::columns::cp_column();
-    Reading::Is(rows::figure(&printed, signed::to_u64(kelvin)))
+    inner::cp_lent(kelvin, &printed)
 }
 
 // The greatest temperature whose psi is at most the target, with the rest. The looks go into the first eleven places of the list, 0 where unused.
 pub fn psi_inverse(target: i64, looks: &mut [u32]) -> PsiAnswer
     ensures { λ r. ⌜ PsiInverse target (now (looks .entry)) r (now (looks .exit)) ⌝ }
 {
-    if looks.len() < LOOK_PLACES {
-        return PsiAnswer::Refused(Refusal::Plain(LIST_SHORT));
-    }
-    let column = rows::columns::psi_column();
-    if target < signed::of_u64(1000 * rows::figure(&column, rows::FIRST_KELVIN)) {
-        return PsiAnswer::Refused(Refusal::Plain(BELOW));
-    }
-    if signed::of_u64(1000 * rows::figure(&column, rows::LAST_KELVIN)) < target {
-        return PsiAnswer::Refused(Refusal::Plain(ABOVE));
-    }
-    search::psi_reached(signed::to_u64(target), looks, &column)
+    let psis = rows::columns::psi_column();
+    inner::psi_inverse_lent(target, looks, &psis)
 }

@@ -5,14 +5,14 @@
 mod telling;
 
 use air::Millikelvin;
-use gas::Charge;
 use gas::Heat;
 use refusal::Refusal;
 use sheet::SheetAnswer;
 ghost use mathlib.Core.Path.{_≡_};
+ghost use mathlib.Core.List.{[], _∷_};
 ghost use Rattle.air.specs.Answers.{heatTold as airHeatTold, psiTold as airPsiTold, cpTold as airCpTold};
 ghost use Rattle.sheet.specs.Answers.{judgeTold};
-ghost use Rattle.gas.specs.Burning.{document01};
+ghost use Rattle.gas.specs.Burning.{document01, chargeIn};
 ghost use Rattle.gas.specs.Answers.{burnTold, heatTold, contentTold, specificTold};
 ghost use Rattle.walk.specs.Lists.{lists};
 ghost use Rattle.marking.specs.Marking.{marked};
@@ -184,7 +184,7 @@ pub extern "C" fn gaskeys_air_cp(kelvin: i64) -> ReadingTold
 // What a charge burns to, in mg.
 #[no_mangle]
 pub extern "C" fn gaskeys_burn(air: i64, carbon: i64, hydrogen: i64) -> BurnTold
-    ensures { λ r. ⌜ r ≡ flatBurn (burnTold document01 (record { air = air; carbon = carbon; hydrogen = hydrogen })) ⌝ }
+    ensures { λ r. ⌜ r ≡ flatBurn (burnTold document01 (chargeIn (air ∷ carbon ∷ hydrogen ∷ []))) ⌝ }
 {
     telling::tell_burn(gas::burn(air, carbon, hydrogen))
 }
@@ -198,13 +198,9 @@ pub extern "C" fn gaskeys_gas_heat(
     millikelvin: i64,
     sheet: &[u32],
 ) -> HeatTold
-    ensures { λ r. ⌜ r ≡ flatHeat (heatTold document01 (record { air = air; carbon = carbon; hydrogen = hydrogen }) millikelvin (now (sheet .entry))) ⌝ }
+    ensures { λ r. ⌜ r ≡ flatHeat (heatTold document01 (chargeIn (air ∷ carbon ∷ hydrogen ∷ [])) millikelvin (now (sheet .entry))) ⌝ }
 {
-    let charge = Charge {
-        air,
-        carbon,
-        hydrogen,
-    };
+    let charge = gas::inner::charge_in(&[air, carbon, hydrogen]);
     telling::tell_heat(gas::gas_heat(charge, Millikelvin(millikelvin), sheet))
 }
 
@@ -217,13 +213,9 @@ pub extern "C" fn gaskeys_content(
     millikelvin: i64,
     sheet: &[u32],
 ) -> HeatTold
-    ensures { λ r. ⌜ r ≡ flatHeat (contentTold document01 (record { air = air; carbon = carbon; hydrogen = hydrogen }) millikelvin (now (sheet .entry))) ⌝ }
+    ensures { λ r. ⌜ r ≡ flatHeat (contentTold document01 (chargeIn (air ∷ carbon ∷ hydrogen ∷ [])) millikelvin (now (sheet .entry))) ⌝ }
 {
-    let charge = Charge {
-        air,
-        carbon,
-        hydrogen,
-    };
+    let charge = gas::inner::charge_in(&[air, carbon, hydrogen]);
     telling::tell_heat(gas::content(charge, Millikelvin(millikelvin), sheet))
 }
 
@@ -236,13 +228,9 @@ pub extern "C" fn gaskeys_specific_content(
     millikelvin: i64,
     sheet: &[u32],
 ) -> HeatTold
-    ensures { λ r. ⌜ r ≡ flatHeat (specificTold document01 (record { air = air; carbon = carbon; hydrogen = hydrogen }) millikelvin (now (sheet .entry))) ⌝ }
+    ensures { λ r. ⌜ r ≡ flatHeat (specificTold document01 (chargeIn (air ∷ carbon ∷ hydrogen ∷ [])) millikelvin (now (sheet .entry))) ⌝ }
 {
-    let charge = Charge {
-        air,
-        carbon,
-        hydrogen,
-    };
+    let charge = gas::inner::charge_in(&[air, carbon, hydrogen]);
     telling::tell_specific(gas::specific_content(charge, Millikelvin(millikelvin), sheet))
 }
 
@@ -256,13 +244,9 @@ pub extern "C" fn gaskeys_temperature(
     sheet: &[u32],
     looks: &mut [u32],
 ) -> TemperatureTold
-    ensures { λ r. ⌜ TemperatureIs document01 (record { air = air; carbon = carbon; hydrogen = hydrogen }) target (now (sheet .entry)) (now (looks .entry)) r (now (looks .exit)) ⌝ }
+    ensures { λ r. ⌜ TemperatureIs document01 (chargeIn (air ∷ carbon ∷ hydrogen ∷ [])) target (now (sheet .entry)) (now (looks .entry)) r (now (looks .exit)) ⌝ }
 {
-    let charge = Charge {
-        air,
-        carbon,
-        hydrogen,
-    };
+    let charge = gas::inner::charge_in(&[air, carbon, hydrogen]);
     telling::tell_temperature(gas::temperature(charge, Heat(target), sheet, looks))
 }
 
@@ -288,15 +272,11 @@ pub extern "C" fn gaskeys_walk(
     rests: &mut [i64],
     looks: &mut [u32],
 ) -> WalkTold
-    ensures { λ r. ⌜ WalkCall (now (sheet .entry)) (record { air = air; carbon = carbon; hydrogen = hydrogen }) millikelvin (now (steps .entry))
+    ensures { λ r. ⌜ WalkCall (now (sheet .entry)) (chargeIn (air ∷ carbon ∷ hydrogen ∷ [])) millikelvin (now (steps .entry))
         (lists (now (temperatures .entry)) (now (rests .entry)) (now (looks .entry))) r
         (lists (now (temperatures .exit)) (now (rests .exit)) (now (looks .exit))) ⌝ }
 {
-    let charge = Charge {
-        air,
-        carbon,
-        hydrogen,
-    };
+    let charge = gas::inner::charge_in(&[air, carbon, hydrogen]);
     telling::tell_walk(walk::walk(
         charge,
         Millikelvin(millikelvin),
@@ -317,13 +297,9 @@ pub extern "C" fn gaskeys_station(
     millikelvin: i64,
     sheet: &[u32],
 ) -> StationTold
-    ensures { λ r. ⌜ r ≡ flatStation (stationTold (record { air = air; carbon = carbon; hydrogen = hydrogen }) millikelvin (now (sheet .entry))) ⌝ }
+    ensures { λ r. ⌜ r ≡ flatStation (stationTold (chargeIn (air ∷ carbon ∷ hydrogen ∷ [])) millikelvin (now (sheet .entry))) ⌝ }
 {
-    let charge = Charge {
-        air,
-        carbon,
-        hydrogen,
-    };
+    let charge = gas::inner::charge_in(&[air, carbon, hydrogen]);
     telling::tell_station(marking::station(charge, Millikelvin(millikelvin), sheet))
 }
 

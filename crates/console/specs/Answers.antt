@@ -6,12 +6,12 @@ use mathlib.Core.List.{List, [], _∷_, _++_}
 use mathlib.Core.Path.{_≡_}
 use lib.IntN.{ℤ}
 use Rattle.air.specs.Limits.{lookPlaces}
+use Rattle.rows.specs.Rows.{rowsH, rowsPsi, rowsCp}
 use Rattle.text.specs.declared.Whole.{Whole}
 use Rattle.text.specs.declared.Whole.the-variants.{Is, Not}
 use Rattle.fields.specs.declared.Three.{Three}
 use Rattle.fields.specs.declared.Three.the-variants.{Are as AreThree, Not as NotThree}
 use Rattle.fields.specs.Fields.{fieldsOf, holdsReturn, oneOf, threeOf, fourOf}
-use Rattle.refusal.specs.Refusals.{first}
 use Rattle.air.specs.Inverse.{looks}
 use Rattle.air.specs.Answers.{heatTold as airHeatTold, psiTold, cpTold, psiValue, psiInverseTold}
 use Rattle.sheet.specs.Sheet.{Accepted}
@@ -19,10 +19,10 @@ use Rattle.sheet.specs.Answers.{paper, judgeTold, SheetRead}
 use Rattle.sheet.specs.declared.SheetAnswer.{SheetAnswer}
 use Rattle.sheet.specs.declared.SheetAnswer.the-variants.{Good, Refused as SheetRefused}
 use Rattle.gas.specs.declared.Charge.{Charge}
-use Rattle.gas.specs.Burning.{document01, gasOf}
+use Rattle.gas.specs.Burning.{document01, gasOf, chargeIn}
 use Rattle.gas.specs.Heat.{gasHeat}
-use Rattle.gas.specs.Answers.{burnTold, heatTold, contentTold, specificTold, temperatureTold, heatOrder}
-use Rattle.marking.specs.Figures.{stationSpecific, stationMass}
+use Rattle.gas.specs.Answers.{burnTold, heatTold, contentTold, specificTold, temperatureTold}
+use Rattle.marking.specs.Figures.{numbersTold}
 use Rattle.console.specs.declared.requests.Request.{Request}
 use Rattle.console.specs.declared.requests.Request.the-variants.{OfAir, Burn, OfGas, Walk, Mark, Unknown}
 use Rattle.console.specs.declared.requests.Reading.{Reading}
@@ -32,7 +32,7 @@ use Rattle.console.specs.declared.requests.Quantity.the-variants.{Heat, 
 use Rattle.console.specs.declared.requests.Asked.{Asked}
 use Rattle.console.specs.declared.requests.Asked.the-variants.{Of, Refused, Misfit}
 use Rattle.console.specs.Requests.{requestOf, askedOf, unknownText, misfitText, returnText}
-use Rattle.wording.specs.Texts.{refusalText, toldText, readingText, inverseText, burntText, wholeText, figuresText}
+use Rattle.wording.specs.Texts.{refusalText, readingText, inverseText, burntText, wholeText, stationText}
 use Rattle.console.specs.Marks.{markRequest}
 use Rattle.console.specs.Walks.{walkRequest}
 
@@ -50,7 +50,7 @@ airReply reading Not = misfitText
 
 -- burn A c h
 abbrev pub burnText : Three → List ℕ
-burnText (AreThree air carbon hydrogen) = burntText (burnTold document01 (record { air = air; carbon = carbon; hydrogen = hydrogen }))
+burnText (AreThree air carbon hydrogen) = burntText (burnTold document01 (chargeIn (air ∷ carbon ∷ hydrogen ∷ [])))
 burnText NotThree = misfitText
 
 -- gas-heat, content and specific-content A c h mK; temperature A c h target; station A c h mK, whose figures are exactly their numbers (`station-exact` of marking)
@@ -59,8 +59,7 @@ gasText Heat s charge mk = wholeText (heatTold document01 charge mk s)
 gasText Content s charge mk = wholeText (contentTold document01 charge mk s)
 gasText Specific s charge mk = wholeText (specificTold document01 charge mk s)
 gasText Temperature s charge target = inverseText (temperatureTold document01 charge target s lookPlaces) (looks (gasHeat document01 s (gasOf charge)) target)
-gasText Station s charge mk =
-    toldText figuresText (first (heatOrder document01 charge mk s) (record { mk = mk; specific = stationSpecific charge mk s; mass = stationMass charge }))
+gasText Station s charge mk = stationText (numbersTold charge mk s)
 
 -- what is asked of a gas
 abbrev pub gasReply : Quantity → List ℕ → Asked → List ℕ
@@ -103,6 +102,12 @@ pub record Verdict (text before : List ℕ) (verdict : SheetAnswer) (s : List �
 pub data Judged (verdict : SheetAnswer) (s : List ℕ) : Type 0 where
   ofList : paper verdict ≡ judgeTold s → Judged verdict s
   ofText : {text before : List ℕ} → Verdict text before verdict s → Judged verdict s
+
+-- the columns of Table 1 that the answers read, lent by the program that built them: H, psi and Cp
+pub record Columns (air psis cps : List ℕ) : Type 0 where
+  pub heats-are : air ≡ rowsH
+  pub psis-are : psis ≡ rowsPsi
+  pub cps-are : cps ≡ rowsCp
 
 -- what is asked of a sheet that was found good is asked of an accepted one
 abbrev pub Ready : Asked → List ℕ → Type 0

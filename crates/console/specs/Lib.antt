@@ -6,7 +6,7 @@ pub mod inner
 pub mod Answers
 pub mod AnswersLaws
 pub mod WalksLaws
-pub mod JudgedLaws
+pub mod VerdictLaws
 pub mod RoomLaws
 pub mod OneOutcome
 pub mod Examples

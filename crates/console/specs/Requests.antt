@@ -6,6 +6,7 @@ use mathlib.Core.List.{List, [], _∷_}
 use lib.Dec.{eqb}
 use Rattle.fields.specs.declared.Four.{Four}
 use Rattle.fields.specs.declared.Four.the-variants.{Are, Not}
+use Rattle.gas.specs.Burning.{chargeIn}
 use Rattle.sheet.specs.declared.SheetAnswer.{SheetAnswer}
 use Rattle.sheet.specs.declared.SheetAnswer.the-variants.{Good, Refused as SheetRefused}
 use Rattle.console.specs.declared.requests.Request.{Request}
@@ -113,6 +114,6 @@ requestOf w =
 
 -- four numbers are a charge and a number to be asked of the sheet; a sheet that was refused when it was read tells its refusal instead
 abbrev pub askedOf : Four → SheetAnswer → Asked
-askedOf (Are air carbon hydrogen number) Good = Of (record { air = air; carbon = carbon; hydrogen = hydrogen }) number
+askedOf (Are air carbon hydrogen number) Good = Of (chargeIn (air ∷ carbon ∷ hydrogen ∷ [])) number
 askedOf (Are air carbon hydrogen number) (SheetRefused r) = Refused r
 askedOf Not verdict = Misfit

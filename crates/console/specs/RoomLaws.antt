@@ -42,7 +42,7 @@ use Rattle.refusal.specs.OrdersLaws.{clear-left, clear-right}
 use Rattle.air.specs.Answers.{psiValue, psiOrder}
 use Rattle.refusal.specs.declared.Refusal.{Refusal}
 use Rattle.refusal.specs.declared.Refusal.the-variants.{Plain, At}
-use Rattle.wording.specs.Texts.{okText, fieldsText, refusalText, toldText, countedText, foundText, valueText, figuresText, productsText, burntText, verdictText, stateText, courseText}
+use Rattle.wording.specs.Texts.{okText, fieldsText, refusalText, toldText, countedText, foundText, valueText, numbersText, productsText, burntText, verdictText, stateText, courseText}
 use Rattle.text.specs.ReadingLaws.{and-left, and-right}
 use Rattle.sheet.specs.Sheet.{Accepted, notLong, firstBadRow}
 use Rattle.sheet.specs.Answers.{paper, sheetLines, judgeTold, Form, sheetOf, noSheet, breaks, badRowOf, SheetRead}
@@ -51,7 +51,7 @@ use Rattle.gas.specs.declared.Charge.{Charge}
 use Rattle.sheet.specs.AnswersLaws.{accepted-of-told}
 use Rattle.sheet.specs.declared.SheetAnswer.{SheetAnswer}
 use Rattle.sheet.specs.declared.SheetAnswer.the-variants.{Good, Refused as SheetRefused}
-use Rattle.gas.specs.Burning.{Weights, Limits, Burns, document01, gasOf, beyond, products, oxygenUsed, totalMass}
+use Rattle.gas.specs.Burning.{Weights, Limits, Burns, document01, gasOf, beyond, products, oxygenUsed, totalMass, chargeIn}
 use Rattle.gas.specs.BurningLaws.{limits-of, burns-of}
 use Rattle.gas.specs.BoundsLaws.{gas-heat-most, gas-heat-least, content-most, content-least, specific-most, specific-least, mass-most}
 use Rattle.gas.specs.Heat.{gasHeat, contentAbove15, specificContent}
@@ -64,7 +64,7 @@ use Rattle.walk.specs.RunLaws.{StepDone, step-done}
 use Rattle.typed.specs.Typed.{numberOf}
 use Rattle.typed.specs.declared.Number.{Number}
 use Rattle.typed.specs.declared.Number.the-variants.{Is as IsNumber, Not as NoNumber}
-use Rattle.marking.specs.Figures.{stationSpecific, stationMass}
+use Rattle.marking.specs.Figures.{numbersOf}
 use Rattle.marking.specs.Marking.{order, counts}
 use Rattle.marking.specs.declared.Typed.{Typed}
 use Rattle.marking.specs.declared.Typed.the-variants.{Blank as TypedBlank}
@@ -311,7 +311,7 @@ short-air reading Not = lit≤ tt
 -- ---- a gas
 short-burn : (n : Three) → length (burnText n) ≤ replyRoom
 unfolding products oxygenUsed
-short-burn (AreThree a c h) = go (record { air = a; carbon = c; hydrogen = h })
+short-burn (AreThree a c h) = go (chargeIn (a ∷ c ∷ h ∷ []))
   where
     go : (ch : Charge) → length (burntText (burnTold document01 ch)) ≤ replyRoom
     go ch =
@@ -369,10 +369,10 @@ module _ (s : List ℕ) (ch : Charge) (n : ℤ) where
 
   short-station : length (gasText Station s ch n) ≤ replyRoom
   short-station =
-      told-short figuresText (record { mk = n; specific = stationSpecific ch n s; mass = stationMass ch })
+      told-short numbersText (numbersOf s n (gasOf ch))
       (λ b.
       simp length-append
-      (omega (arith, field-most n (b .mk), field-most (stationSpecific ch n s) (b .specific), number-most (totalMass document01 (gasOf ch)) (b .mass))))
+      (omega (arith, field-most n (b .mk), field-most (specificContent document01 s (gasOf ch) (up n)) (b .specific), number-most (totalMass document01 (gasOf ch)) (b .mass))))
 
   short-temperature : length (gasText Temperature s ch n) ≤ replyRoom
   short-temperature =
@@ -419,7 +419,7 @@ read-brief {text} {before} verdict r =
     row-few (noSheet i b) e = omega (arith, bad-row-most text i b)
 
 short-quantity : (verdict : SheetAnswer) → Brief verdict → (s : List ℕ) (q : Quantity) (numbers : Four) → length (gasReply q s (askedOf numbers verdict)) ≤ replyRoom
-short-quantity Good b s q (AreFour a c h n) = short-of s (record { air = a; carbon = c; hydrogen = h }) n q
+short-quantity Good b s q (AreFour a c h n) = short-of s (chargeIn (a ∷ c ∷ h ∷ [])) n q
 short-quantity (SheetRefused r) b s q (AreFour a c h n) = b
 short-quantity verdict b s q NotFour = lit≤ tt
 
@@ -621,7 +621,7 @@ module _ (s : List ℕ) (ch : Charge) (mk : ℤ) (numbers : List ℤ) where
 
 short-walk-of : (verdict : SheetAnswer) → Brief verdict → (s : List ℕ) (n : Four) (zs : List ℤ) → length (walkOf verdict s n zs) ≤ replyRoom
 unfolding walkText
-short-walk-of Good b s (AreFour a c h n) zs = short-walk s (record { air = a; carbon = c; hydrogen = h }) n zs
+short-walk-of Good b s (AreFour a c h n) zs = short-walk s (chargeIn (a ∷ c ∷ h ∷ [])) n zs
 short-walk-of (SheetRefused r) b s (AreFour a c h n) zs = subst (λ (l : List ℕ). length l ≤ replyRoom) (sym (append-nil (refusalText r))) b
 short-walk-of verdict b s NotFour zs = lit≤ tt
 

@@ -19,7 +19,7 @@ use Rattle.sheet.specs.Answers.{sheetLines}
 use Rattle.sheet.specs.declared.SheetAnswer.{SheetAnswer}
 use Rattle.sheet.specs.declared.SheetAnswer.the-variants.{Good, Refused}
 use Rattle.gas.specs.declared.Charge.{Charge}
-use Rattle.gas.specs.Burning.{document01}
+use Rattle.gas.specs.Burning.{document01, chargeIn}
 use Rattle.walk.specs.Step.{Out}
 use Rattle.walk.specs.Walk.{Trace, Course, done, stopped, walked, course, outsOf}
 use Rattle.console.specs.Limits.{startNumbers}
@@ -60,7 +60,7 @@ startOf (Count n) zs = cond (leb startNumbers n) (Are (getD zs 0 (pos 0)) (getD 
 startOf Bad zs = Not
 
 abbrev pub walkOf : SheetAnswer → List ℕ → Four → List ℤ → List ℕ
-walkOf verdict s (Are air carbon hydrogen mk) numbers = walkText (walkTold verdict s (record { air = air; carbon = carbon; hydrogen = hydrogen }) mk numbers)
+walkOf verdict s (Are air carbon hydrogen mk) numbers = walkText (walkTold verdict s (chargeIn (air ∷ carbon ∷ hydrogen ∷ [])) mk numbers)
 walkOf verdict s Not numbers = misfitText
 
 abbrev pub walkRequest : SheetAnswer → List ℕ → List (List ℕ) → List ℕ

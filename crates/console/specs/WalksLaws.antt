@@ -33,7 +33,7 @@ use Rattle.sheet.specs.AnswersLaws.{past-sheet}
 use Rattle.sheet.specs.declared.SheetAnswer.{SheetAnswer}
 use Rattle.sheet.specs.declared.SheetAnswer.the-variants.{Good, Refused as SheetRefused}
 use Rattle.gas.specs.declared.Charge.{Charge}
-use Rattle.gas.specs.Burning.{Weights, document01}
+use Rattle.gas.specs.Burning.{Weights, document01, chargeIn}
 use Rattle.walk.specs.declared.Step.{Step}
 use Rattle.walk.specs.declared.WalkAnswer.{WalkAnswer}
 use Rattle.walk.specs.declared.WalkAnswer.the-variants.{Refused}
@@ -230,7 +230,7 @@ module _ (verdict : SheetAnswer) (s : List ℕ) (fs : List (List ℕ)) (before l
           (omega (arith, length-drop startNumbers (valuesOf fs)))
 
   pub walk-kept : (numbers : Numbers) (n : ℕ) → numbers ≡ countAll 0 fs → Stored fs before numbers later → n ≡ heldOf numbers heldNumbers → startNumbers ≤ n
-      → walkText (walkTold verdict s (record { air = getD later 0 (pos 0); carbon = getD later 1 (pos 0); hydrogen = getD later 2 (pos 0) }) (getD later 3 (pos 0)) (take (n - startNumbers) (drop startNumbers later))) ≡ walkRequest verdict s fs
+      → walkText (walkTold verdict s (chargeIn later) (getD later 3 (pos 0)) (take (n - startNumbers) (drop startNumbers later))) ≡ walkRequest verdict s fs
   walk-kept (Count k) n e st en h =
       let c : k ≡ 0 + length (valuesOf fs) = count-is fs 0 k (sym e) in
       let g : (i : ℕ) → i < startNumbers → getD later i (pos 0) ≡ getD (valuesOf fs) i (pos 0) = λ i l. ap (λ (x : List ℤ). getD x i (pos 0)) st ∙ kept-first (pos 0) (valuesOf fs) before i (omega arith) (omega arith) in

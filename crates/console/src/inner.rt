@@ -1,4 +1,4 @@
-// The inner doors of console, for the programs beside it: answers over a sheet whose verdict is kept by value.
+// The inner doors of console, for the programs beside it: answers over a sheet whose verdict is kept by value, with the columns of Table 1 lent, which a program builds once.
 use crate::replies;
 use crate::requests;
 use crate::walks;
@@ -6,8 +6,10 @@ use crate::walks::Layout;
 use air::Millikelvin;
 use gas::Charge;
 use sheet::SheetAnswer;
+ghost use mathlib.Core.Path.{_≡_};
+ghost use Rattle.rows.specs.Rows.{rowsH};
 ghost use Rattle.text.specs.Put.{Put};
-ghost use Rattle.console.specs.Answers.{Judged, lineText, answerOf};
+ghost use Rattle.console.specs.Answers.{Columns, Judged, lineText, answerOf};
 ghost use Rattle.console.specs.Walks.{walkTold, printedWalk};
 
 // The answer to a request line, its line feed with it, over a sheet that was judged when it was read.
@@ -15,19 +17,31 @@ pub fn answer_judged(
     line: &[u8],
     verdict: SheetAnswer,
     sheet: &[u32],
+    air: &[u32; rows::ROWS],
+    psis: &[u32; rows::ROWS],
+    cps: &[u32; rows::ROWS],
     out: &mut [u8],
     at: usize,
 ) -> usize
-    requires { ⌜ Judged verdict (now sheet) ⌝ }
+    requires { ⌜ Judged verdict (now sheet) × Columns (now air) (now psis) (now cps) ⌝ }
     ensures { λ r. ⌜ Put (answerOf verdict (now (sheet .entry)) (now (line .entry))) (now (out .entry)) at r (now (out .exit)) ⌝ }
 {
-    let next = put_reply(line, verdict, sheet, out, at);
+    let next = put_reply(line, verdict, sheet, air, psis, cps, out, at);
     text::put_byte(10, out, next)
 }
 
 // What is said to a line: that it has a carriage return, or the reply to its request.
-fn put_reply(line: &[u8], verdict: SheetAnswer, sheet: &[u32], out: &mut [u8], at: usize) -> usize
-    requires { ⌜ Judged verdict (now sheet) ⌝ }
+fn put_reply(
+    line: &[u8],
+    verdict: SheetAnswer,
+    sheet: &[u32],
+    air: &[u32; rows::ROWS],
+    psis: &[u32; rows::ROWS],
+    cps: &[u32; rows::ROWS],
+    out: &mut [u8],
+    at: usize,
+) -> usize
+    requires { ⌜ Judged verdict (now sheet) × Columns (now air) (now psis) (now cps) ⌝ }
     ensures { λ r. ⌜ Put (lineText verdict (now (sheet .entry)) (now (line .entry))) (now (out .entry)) at r (now (out .exit)) ⌝ }
 {
     if fields::holds_return(line) {
@@ -35,7 +49,18 @@ fn put_reply(line: &[u8], verdict: SheetAnswer, sheet: &[u32], out: &mut [u8], a
     }
     let end = fields::field_end(line, 0);
     let request = requests::request_of(&line[0..end]);
-    replies::reply(request, line, end + 1, verdict, sheet, out, at)
+    replies::reply(
+        request,
+        line,
+        end + 1,
+        verdict,
+        sheet,
+        air,
+        psis,
+        cps,
+        out,
+        at,
+    )
 }
 
 // The printed walk over a sheet that was judged when it was read.
@@ -45,11 +70,12 @@ pub fn print_judged(
     steps: &[i64],
     verdict: SheetAnswer,
     sheet: &[u32],
+    air: &[u32; rows::ROWS],
     out: &mut [u8],
     at: usize,
 ) -> usize
-    requires { ⌜ Judged verdict (now sheet) ⌝ }
+    requires { ⌜ Judged verdict (now sheet) × (now air ≡ rowsH) ⌝ }
     ensures { λ r. ⌜ Put (printedWalk (walkTold verdict (now (sheet .entry)) charge (t .0) (now (steps .entry)))) (now (out .entry)) at r (now (out .exit)) ⌝ }
 {
-    walks::show(Layout::Page, charge, t, steps, verdict, sheet, out, at)
+    walks::show(Layout::Page, charge, t, steps, verdict, sheet, air, out, at)
 }

@@ -2,7 +2,6 @@
 // specs/Answers.antt, for every line and every sheet list: the numbers of the layers below as their own definitions tell them, in one definition of text. And the
 // printed walk, `printedWalk` of specs/Walks.antt.
 pub mod inner;
-mod judged;
 mod marks;
 mod replies;
 mod requests;
@@ -24,7 +23,11 @@ pub const PAGE_ROOM: usize = 4096;
 pub fn answer(line: &[u8], sheet: &[u32], out: &mut [u8], at: usize) -> usize
     ensures { λ r. ⌜ Put (answerOf SheetAnswer.Good (now (sheet .entry)) (now (line .entry))) (now (out .entry)) at r (now (out .exit)) ⌝ }
 {
-    inner::answer_judged(line, sheet::judge_sheet(sheet), sheet, out, at)
+    let air = rows::columns::heat_column();
+    let psis = rows::columns::psi_column();
+    let cps = rows::columns::cp_column();
+    let verdict = sheet::inner::judge(sheet, &air);
+    inner::answer_judged(line, verdict, sheet, &air, &psis, &cps, out, at)
 }
 
 // Puts the walk of a charge from a temperature over the steps, four numbers each, as document 01 prints one, as far as there is room. Answers the place after it.
@@ -38,5 +41,7 @@ pub fn print_walk(
 ) -> usize
     ensures { λ r. ⌜ Put (printedWalk (walkTold SheetAnswer.Good (now (sheet .entry)) charge (t .0) (now (steps .entry)))) (now (out .entry)) at r (now (out .exit)) ⌝ }
 {
-    inner::print_judged(charge, t, steps, sheet::judge_sheet(sheet), sheet, out, at)
+    let air = rows::columns::heat_column();
+    let verdict = sheet::inner::judge(sheet, &air);
+    inner::print_judged(charge, t, steps, verdict, sheet, &air, out, at)
 }

@@ -1,5 +1,4 @@
 // The reply to each request: its numbers read, the call of the layer below, its answer put. Each function is one definition of specs/Answers.antt.
-use crate::judged;
 use crate::marks;
 use crate::requests;
 use crate::requests::Asked;
@@ -12,16 +11,17 @@ use fields::Three;
 use gas::BurnAnswer;
 use gas::Charge;
 use gas::Heat;
-use gas::inner::Admitted;
 use sheet::SheetAnswer;
 use text::Whole;
+ghost use mathlib.Core.Path.{_≡_};
+ghost use Rattle.rows.specs.Rows.{rowsH, rowsPsi};
 ghost use Rattle.text.specs.Put.{Put};
 ghost use Rattle.sheet.specs.Sheet.{Accepted};
 ghost use Rattle.fields.specs.Fields.{fieldsFrom};
 ghost use Rattle.gas.specs.Answers.{paperBurn};
 ghost use Rattle.wording.specs.Texts.{burntText};
 ghost use Rattle.console.specs.Requests.{unknownText, misfitText, noNumberText};
-ghost use Rattle.console.specs.Answers.{Judged, Ready, airText, airReply, burnText, gasText, gasReply, replyText};
+ghost use Rattle.console.specs.Answers.{Columns, Judged, Ready, airText, airReply, burnText, gasText, gasReply, replyText};
 
 // No request begins with this word.
 fn put_unknown(out: &mut [u8], at: usize) -> usize
@@ -45,32 +45,55 @@ pub(crate) fn put_no_number(out: &mut [u8], at: usize) -> usize
 }
 
 // The temperature of a psi, asked with eleven places for looks.
-fn ask_psi(psi: i64, out: &mut [u8], at: usize) -> usize
-    ensures { λ r. ⌜ Put (airText Reading.Temperature psi) (now (out .entry)) at r (now (out .exit)) ⌝ }
+fn ask_psi(target: i64, psis: &[u32; rows::ROWS], out: &mut [u8], at: usize) -> usize
+    requires { ⌜ now psis ≡ rowsPsi ⌝ }
+    ensures { λ r. ⌜ Put (airText Reading.Temperature target) (now (out .entry)) at r (now (out .exit)) ⌝ }
 {
     let mut looks = [0u32; air::LOOK_PLACES];
-    let answer = air::psi_inverse(psi, &mut looks);
+    let answer = air::inner::psi_inverse_lent(target, &mut looks, psis);
     wording::put_psi(answer, &looks, out, at)
 }
 
 // The reading of air at a number: mK, kelvins or a psi.
-fn tell_air(reading: Reading, number: i64, out: &mut [u8], at: usize) -> usize
+fn tell_air(
+    reading: Reading,
+    number: i64,
+    air: &[u32; rows::ROWS],
+    psis: &[u32; rows::ROWS],
+    cps: &[u32; rows::ROWS],
+    out: &mut [u8],
+    at: usize,
+) -> usize
+    requires { ⌜ Columns (now air) (now psis) (now cps) ⌝ }
     ensures { λ r. ⌜ Put (airText reading number) (now (out .entry)) at r (now (out .exit)) ⌝ }
 {
     match reading {
-        Reading::Heat => wording::put_reading(air::heat(Millikelvin(number)), out, at),
-        Reading::Psi => wording::put_reading(air::psi(Millikelvin(number)), out, at),
-        Reading::Cp => wording::put_reading(air::cp(number), out, at),
-        Reading::Temperature => ask_psi(number, out, at),
+        Reading::Heat => {
+            wording::put_reading(air::inner::heat_lent(Millikelvin(number), air), out, at)
+        }
+        Reading::Psi => {
+            wording::put_reading(air::inner::psi_lent(Millikelvin(number), psis), out, at)
+        }
+        Reading::Cp => wording::put_reading(air::inner::cp_lent(number, cps), out, at),
+        Reading::Temperature => ask_psi(number, psis, out, at),
     }
 }
 
 // air-heat mK, air-psi mK, air-cp K, air-temperature psi
-fn reply_air(reading: Reading, number: Whole, out: &mut [u8], at: usize) -> usize
+fn reply_air(
+    reading: Reading,
+    number: Whole,
+    air: &[u32; rows::ROWS],
+    psis: &[u32; rows::ROWS],
+    cps: &[u32; rows::ROWS],
+    out: &mut [u8],
+    at: usize,
+) -> usize
+    requires { ⌜ Columns (now air) (now psis) (now cps) ⌝ }
     ensures { λ r. ⌜ Put (airReply reading number) (now (out .entry)) at r (now (out .exit)) ⌝ }
 {
     match number {
-        Whole::Is(n) => tell_air(reading, n, out, at),
+        Whole::Is(n) => tell_air(reading, n, air, psis, cps, out, at),
         Whole::Not => put_misfit(out, at),
     }
 }
@@ -96,31 +119,20 @@ fn reply_burn(numbers: Three, out: &mut [u8], at: usize) -> usize
 }
 
 // The temperature of a gas heat, asked with eleven places for looks.
-fn ask_temperature(charge: Charge, target: i64, sheet: &[u32], out: &mut [u8], at: usize) -> usize
-    requires { ⌜ Accepted (now sheet) ⌝ }
+fn ask_temperature(
+    charge: Charge,
+    target: i64,
+    sheet: &[u32],
+    air: &[u32; rows::ROWS],
+    out: &mut [u8],
+    at: usize,
+) -> usize
+    requires { ⌜ Accepted (now sheet) × (now air ≡ rowsH) ⌝ }
     ensures { λ r. ⌜ Put (gasText Quantity.Temperature (now (sheet .entry)) charge target) (now (out .entry)) at r (now (out .exit)) ⌝ }
 {
     let mut looks = [0u32; air::LOOK_PLACES];
-    let answer = judged::temperature(charge, Heat(target), sheet, &mut looks);
+    let answer = gas::inner::temperature_judged(charge, Heat(target), &mut looks, sheet, air);
     wording::put_temperature(answer, &looks, out, at)
-}
-
-// The figures of a charge at a temperature, as whole numbers.
-fn ask_station(charge: Charge, mk: i64, sheet: &[u32], out: &mut [u8], at: usize) -> usize
-    requires { ⌜ Accepted (now sheet) ⌝ }
-    ensures { λ r. ⌜ Put (gasText Quantity.Station (now (sheet .entry)) charge mk) (now (out .entry)) at r (now (out .exit)) ⌝ }
-{
-    match gas::inner::admit_at(charge, Millikelvin(mk)) {
-        Admitted::Burning(gas) => {
-            let air = rows::columns::heat_column();
-            let specific = gas::inner::specific_at(gas, Millikelvin(mk), sheet, &air);
-            let ok = text::put_text(b"ok", out, at);
-            let next = wording::put_signed(mk, out, ok);
-            let after = wording::put_signed(specific, out, next);
-            wording::put_number(gas::inner::total_mass(gas), out, after)
-        }
-        Admitted::Refused(refusal) => wording::put_refusal(refusal, out, at),
-    }
 }
 
 // What a gas tells at a number: mK, or the target of a temperature.
@@ -129,42 +141,49 @@ fn tell_gas(
     charge: Charge,
     number: i64,
     sheet: &[u32],
+    air: &[u32; rows::ROWS],
     out: &mut [u8],
     at: usize,
 ) -> usize
-    requires { ⌜ Accepted (now sheet) ⌝ }
+    requires { ⌜ Accepted (now sheet) × (now air ≡ rowsH) ⌝ }
     ensures { λ r. ⌜ Put (gasText quantity (now (sheet .entry)) charge number) (now (out .entry)) at r (now (out .exit)) ⌝ }
 {
+    let t = Millikelvin(number);
     match quantity {
         Quantity::Heat => {
-            wording::put_heat(
-                judged::gas_heat(charge, Millikelvin(number), sheet),
-                out,
-                at,
-            )
+            wording::put_heat(gas::inner::gas_heat_judged(charge, t, sheet, air), out, at)
         }
         Quantity::Content => {
-            wording::put_heat(judged::content(charge, Millikelvin(number), sheet), out, at)
+            wording::put_heat(gas::inner::content_judged(charge, t, sheet, air), out, at)
         }
         Quantity::Specific => {
-            wording::put_specific(
-                judged::specific_content(charge, Millikelvin(number), sheet),
+            wording::put_specific(gas::inner::specific_judged(charge, t, sheet, air), out, at)
+        }
+        Quantity::Temperature => ask_temperature(charge, number, sheet, air, out, at),
+        Quantity::Station => {
+            wording::put_station(
+                marking::inner::station_judged(charge, t, sheet, air),
                 out,
                 at,
             )
         }
-        Quantity::Temperature => ask_temperature(charge, number, sheet, out, at),
-        Quantity::Station => ask_station(charge, number, sheet, out, at),
     }
 }
 
 // gas-heat, content, specific-content and station A c h mK, temperature A c h target
-fn reply_gas(quantity: Quantity, asked: Asked, sheet: &[u32], out: &mut [u8], at: usize) -> usize
-    requires { ⌜ Ready asked (now sheet) ⌝ }
+fn reply_gas(
+    quantity: Quantity,
+    asked: Asked,
+    sheet: &[u32],
+    air: &[u32; rows::ROWS],
+    out: &mut [u8],
+    at: usize,
+) -> usize
+    requires { ⌜ Ready asked (now sheet) × (now air ≡ rowsH) ⌝ }
     ensures { λ r. ⌜ Put (gasReply quantity (now (sheet .entry)) asked) (now (out .entry)) at r (now (out .exit)) ⌝ }
 {
     match asked {
-        Asked::Of(charge, number) => tell_gas(quantity, charge, number, sheet, out, at),
+        Asked::Of(charge, number) => tell_gas(quantity, charge, number, sheet, air, out, at),
         Asked::Refused(refusal) => wording::put_refusal(refusal, out, at),
         Asked::Misfit => put_misfit(out, at),
     }
@@ -177,20 +196,26 @@ pub(crate) fn reply(
     from: usize,
     verdict: SheetAnswer,
     sheet: &[u32],
+    air: &[u32; rows::ROWS],
+    psis: &[u32; rows::ROWS],
+    cps: &[u32; rows::ROWS],
     out: &mut [u8],
     at: usize,
 ) -> usize
-    requires { ⌜ Judged verdict (now sheet) ⌝ }
+    requires { ⌜ Judged verdict (now sheet) × Columns (now air) (now psis) (now cps) ⌝ }
     ensures { λ r. ⌜ Put (replyText verdict (now (sheet .entry)) request (fieldsFrom (now (line .entry)) from)) (now (out .entry)) at r (now (out .exit)) ⌝ }
 {
     match request {
-        Request::OfAir(reading) => reply_air(reading, fields::read_one(line, from), out, at),
+        Request::OfAir(reading) => {
+            let number = fields::read_one(line, from);
+            reply_air(reading, number, air, psis, cps, out, at)
+        }
         Request::Burn => reply_burn(fields::read_three(line, from), out, at),
         Request::OfGas(quantity) => {
             let asked = requests::asked_of(fields::read_four(line, from), verdict);
-            reply_gas(quantity, asked, sheet, out, at)
+            reply_gas(quantity, asked, sheet, air, out, at)
         }
-        Request::Walk => walks::reply_walk(line, from, verdict, sheet, out, at),
+        Request::Walk => walks::reply_walk(line, from, verdict, sheet, air, out, at),
         Request::Mark => marks::reply_mark(line, from, out, at),
         Request::Unknown => put_unknown(out, at),
     }

@@ -103,14 +103,9 @@ pub(crate) fn asked_of(numbers: Four, verdict: SheetAnswer) -> Asked
 {
     match numbers {
         Four::Are(air, carbon, hydrogen, number) => match verdict {
-            SheetAnswer::Good => Asked::Of(
-                Charge {
-                    air,
-                    carbon,
-                    hydrogen,
-                },
-                number,
-            ),
+            SheetAnswer::Good => {
+                Asked::Of(gas::inner::charge_in(&[air, carbon, hydrogen]), number)
+            }
             SheetAnswer::Refused(refusal) => Asked::Refused(refusal),
         },
         Four::Not => Asked::Misfit,

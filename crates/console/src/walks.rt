@@ -7,6 +7,7 @@ use walk::WalkAnswer;
 ghost use mathlib.Core.Path.{_≡_};
 ghost use Prim.Native.Nat.{_≤_};
 ghost use lib.ListN.{length};
+ghost use Rattle.rows.specs.Rows.{rowsH};
 ghost use Rattle.text.specs.Put.{Put};
 ghost use Rattle.walk.specs.Limits.{mostSteps, mostLooks};
 ghost use Rattle.fields.specs.Fields.{fieldsFrom};
@@ -194,16 +195,16 @@ fn walk_held(
     looks: &mut [u32],
     verdict: SheetAnswer,
     sheet: &[u32],
+    air: &[u32; rows::ROWS],
 ) -> WalkAnswer
-    requires { ⌜ Judged verdict (now sheet) × (length (now temperatures) ≡ mostSteps) × (length (now rests) ≡ mostSteps) × (length (now looks) ≡ mostLooks) ⌝ }
+    requires { ⌜ Judged verdict (now sheet) × (now air ≡ rowsH) × (length (now temperatures) ≡ mostSteps) × (length (now rests) ≡ mostSteps) × (length (now looks) ≡ mostLooks) ⌝ }
     ensures { λ r. ⌜ Walks (walkTold verdict (now (sheet .entry)) charge (t .0) (now (steps .entry)))
         (lists (now (temperatures .entry)) (now (rests .entry)) (now (looks .entry))) r
         (lists (now (temperatures .exit)) (now (rests .exit)) (now (looks .exit))) ⌝ }
 {
     match verdict {
         SheetAnswer::Good => {
-            let air = rows::columns::heat_column();
-            walk::inner::walk_judged(charge, t, steps, temperatures, rests, looks, sheet, &air)
+            walk::inner::walk_judged(charge, t, steps, temperatures, rests, looks, sheet, air)
         }
         SheetAnswer::Refused(refusal) => WalkAnswer::Refused(refusal),
     }
@@ -217,10 +218,11 @@ pub(crate) fn show(
     steps: &[i64],
     verdict: SheetAnswer,
     sheet: &[u32],
+    air: &[u32; rows::ROWS],
     out: &mut [u8],
     at: usize,
 ) -> usize
-    requires { ⌜ Judged verdict (now sheet) ⌝ }
+    requires { ⌜ Judged verdict (now sheet) × (now air ≡ rowsH) ⌝ }
     ensures { λ r. ⌜ Put (layoutText layout (walkTold verdict (now (sheet .entry)) charge (t .0) (now (steps .entry)))) (now (out .entry)) at r (now (out .exit)) ⌝ }
 {
     let mut temperatures = [0i64; walk::MOST_STEPS];
@@ -235,6 +237,7 @@ pub(crate) fn show(
         &mut looks,
         verdict,
         sheet,
+        air,
     );
     put_walk(layout, answer, &temperatures, &rests, &looks, out, at)
 }
@@ -245,10 +248,11 @@ pub(crate) fn reply_walk(
     from: usize,
     verdict: SheetAnswer,
     sheet: &[u32],
+    air: &[u32; rows::ROWS],
     out: &mut [u8],
     at: usize,
 ) -> usize
-    requires { ⌜ Judged verdict (now sheet) ⌝ }
+    requires { ⌜ Judged verdict (now sheet) × (now air ≡ rowsH) ⌝ }
     ensures { λ r. ⌜ Put (walkRequest verdict (now (sheet .entry)) (fieldsFrom (now (line .entry)) from)) (now (out .entry)) at r (now (out .exit)) ⌝ }
 {
     let mut list = [0i64; HELD_NUMBERS];
@@ -256,11 +260,7 @@ pub(crate) fn reply_walk(
     if n < START_NUMBERS {
         return replies::put_misfit(out, at);
     }
-    let start = Charge {
-        air: list[0],
-        carbon: list[1],
-        hydrogen: list[2],
-    };
+    let start = gas::inner::charge_in(&list);
     let t = Millikelvin(list[3]);
     show(
         Layout::Line,
@@ -269,6 +269,7 @@ pub(crate) fn reply_walk(
         &list[START_NUMBERS..n],
         verdict,
         sheet,
+        air,
         out,
         at,
     )

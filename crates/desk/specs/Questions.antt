@@ -6,7 +6,7 @@ use lib.Dec.{ltb}
 use lib.IntN.{ℤ, pos}
 use lib.ListN.{take, drop, getD}
 use lib.Seq.{sets}
-use Rattle.gas.specs.declared.Charge.{Charge}
+use Rattle.gas.specs.Burning.{chargeIn}
 use Rattle.sheet.specs.declared.SheetAnswer.{SheetAnswer}
 use Rattle.walk.specs.Limits.{stepNumbers}
 use Rattle.console.specs.Walks.{walkTold, printedWalk}
@@ -16,14 +16,10 @@ use Rattle.desk.specs.Limits.{keptLines}
 abbrev pub keptLine : ℕ → ℤ → ℤ → ℤ → ℤ → List ℤ → List ℤ
 keptLine k a b c d numbers = cond (ltb k keptLines) (sets numbers (stepNumbers * k) (a ∷ b ∷ c ∷ d ∷ [])) numbers
 
--- the charge of the first line
-abbrev pub startIn : List ℤ → Charge
-startIn numbers = record { air = getD numbers 0 (pos 0); carbon = getD numbers 1 (pos 0); hydrogen = getD numbers 2 (pos 0) }
-
 -- the steps of the lines after it: of a question with more lines than the list has places for, one more than the longest walk has, so that it is refused with 13
 abbrev pub stepsIn : ℕ → List ℤ → List ℤ
 stepsIn lines numbers = take (stepNumbers * min lines keptLines - stepNumbers) (drop stepNumbers numbers)
 
 -- the printed walk of a question of so many lines
 abbrev pub questionPage : SheetAnswer → List ℕ → ℕ → List ℤ → List ℕ
-questionPage verdict s lines numbers = printedWalk (walkTold verdict s (startIn numbers) (getD numbers 3 (pos 0)) (stepsIn lines numbers))
+questionPage verdict s lines numbers = printedWalk (walkTold verdict s (chargeIn numbers) (getD numbers 3 (pos 0)) (stepsIn lines numbers))

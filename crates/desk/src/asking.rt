@@ -11,7 +11,7 @@ ghost use Prim.Native.Nat.{_+_, _*_, _≤_};
 ghost use lib.ListN.{length};
 ghost use Rattle.console.specs.Limits.{answerRoom};
 ghost use Rattle.stream.specs.Writing.{Free, Leaves};
-ghost use Rattle.console.specs.Answers.{Judged};
+ghost use Rattle.console.specs.Answers.{Columns, Judged};
 ghost use Rattle.desk.specs.Limits.{outputRoom};
 
 // answers are written where they fill half of this
@@ -31,14 +31,29 @@ fn output() -> [u8; OUTPUT]
 }
 
 // Answers every line of standard input.
-pub(crate) fn ask(verdict: SheetAnswer, sheet: &[u32])
-    requires { ⌜ Judged verdict (now sheet) ⌝ }
+pub(crate) fn ask(
+    verdict: SheetAnswer,
+    sheet: &[u32],
+    air: &[u32; rows::ROWS],
+    psis: &[u32; rows::ROWS],
+    cps: &[u32; rows::ROWS],
+)
+    requires { ⌜ Judged verdict (now sheet) × Columns (now air) (now psis) (now cps) ⌝ }
 {
     let mut piece = io::large_buffer();
     let mut line = lines::places();
     let mut out = output();
-    let turn = answer_input(verdict, sheet, &mut piece, &mut line, &mut out);
-    answer_last(turn, &line, verdict, sheet, &mut out);
+    let turn = answer_input(
+        verdict,
+        sheet,
+        air,
+        psis,
+        cps,
+        &mut piece,
+        &mut line,
+        &mut out,
+    );
+    answer_last(turn, &line, verdict, sheet, air, psis, cps, &mut out);
 }
 
 // Answers the lines of standard input that a line feed ends. A proved loop has to end, and nothing says that the input does: so it counts its turns down, from a number that
@@ -46,11 +61,14 @@ pub(crate) fn ask(verdict: SheetAnswer, sheet: &[u32])
 fn answer_input(
     verdict: SheetAnswer,
     sheet: &[u32],
+    air: &[u32; rows::ROWS],
+    psis: &[u32; rows::ROWS],
+    cps: &[u32; rows::ROWS],
     piece: &mut [u8],
     line: &mut [u8],
     out: &mut [u8],
 ) -> Turn
-    requires { ⌜ Judged verdict (now sheet) × (2 * answerRoom ≤ length (now out)) ⌝ }
+    requires { ⌜ Judged verdict (now sheet) × (2 * answerRoom ≤ length (now out)) × Columns (now air) (now psis) (now cps) ⌝ }
     ensures { λ r. ⌜ Free (r .output) (now (out .exit)) ⌝ }
 {
     let mut turn = Turn {
@@ -62,7 +80,7 @@ fn answer_input(
         turns -= 1;
         match stream::read_some(STDIN_FILENO, b"standard input", piece) {
             Got::Bytes(n) => {
-                turn = answer_piece(turn, &piece[..n], verdict, sheet, line, out);
+                turn = answer_piece(turn, &piece[..n], verdict, sheet, air, psis, cps, line, out);
                 let output = turn.output;
                 turns = stream::turns_left(turns, output);
             }
@@ -88,10 +106,13 @@ fn answer_piece(
     piece: &[u8],
     verdict: SheetAnswer,
     sheet: &[u32],
+    air: &[u32; rows::ROWS],
+    psis: &[u32; rows::ROWS],
+    cps: &[u32; rows::ROWS],
     line: &mut [u8],
     out: &mut [u8],
 ) -> Turn
-    requires { ⌜ Judged verdict (now sheet) × (2 * answerRoom ≤ length (now out)) × Free (turn .output) (now out) ⌝ }
+    requires { ⌜ Judged verdict (now sheet) × (2 * answerRoom ≤ length (now out)) × Free (turn .output) (now out) × Columns (now air) (now psis) (now cps) ⌝ }
     ensures { λ r. ⌜ Leaves (turn .output) (now (out .entry)) (r .output) (now (out .exit)) ⌝ }
 {
     let mut held = turn.held;
@@ -102,7 +123,7 @@ fn answer_piece(
         held = taken.held;
         from = taken.next;
         if taken.whole {
-            output = answer_held(held, line, verdict, sheet, out, output);
+            output = answer_held(held, line, verdict, sheet, air, psis, cps, out, output);
             held = Held::Bytes(0);
         }
     }
@@ -113,8 +134,17 @@ fn answer_piece(
 }
 
 // Answers a last line that no line feed ended.
-fn answer_last(turn: Turn, line: &[u8], verdict: SheetAnswer, sheet: &[u32], out: &mut [u8])
-    requires { ⌜ Judged verdict (now sheet) × (2 * answerRoom ≤ length (now out)) × Free (turn .output) (now out) ⌝ }
+fn answer_last(
+    turn: Turn,
+    line: &[u8],
+    verdict: SheetAnswer,
+    sheet: &[u32],
+    air: &[u32; rows::ROWS],
+    psis: &[u32; rows::ROWS],
+    cps: &[u32; rows::ROWS],
+    out: &mut [u8],
+)
+    requires { ⌜ Judged verdict (now sheet) × (2 * answerRoom ≤ length (now out)) × Free (turn .output) (now out) × Columns (now air) (now psis) (now cps) ⌝ }
 {
     let held = turn.held;
     if let Held::Bytes(n) = held {
@@ -123,7 +153,7 @@ fn answer_last(turn: Turn, line: &[u8], verdict: SheetAnswer, sheet: &[u32], out
         }
     }
     let output = turn.output;
-    let last = answer_held(held, line, verdict, sheet, out, output);
+    let last = answer_held(held, line, verdict, sheet, air, psis, cps, out, output);
     stream::flush(out, last);
 }
 
@@ -133,16 +163,19 @@ fn answer_held(
     line: &[u8],
     verdict: SheetAnswer,
     sheet: &[u32],
+    air: &[u32; rows::ROWS],
+    psis: &[u32; rows::ROWS],
+    cps: &[u32; rows::ROWS],
     out: &mut [u8],
     output: Output,
 ) -> Output
-    requires { ⌜ Judged verdict (now sheet) × (2 * answerRoom ≤ length (now out)) × Free output (now out) ⌝ }
+    requires { ⌜ Judged verdict (now sheet) × (2 * answerRoom ≤ length (now out)) × Free output (now out) × Columns (now air) (now psis) (now cps) ⌝ }
     ensures { λ r. ⌜ Leaves output (now (out .entry)) r (now (out .exit)) ⌝ }
 {
     let Output::At(at) = output else {
         return Output::Closed;
     };
-    let next = put_answer(held, line, verdict, sheet, out, at);
+    let next = put_answer(held, line, verdict, sheet, air, psis, cps, out, at);
     stream::make_room(out, Output::At(next))
 }
 
@@ -152,15 +185,18 @@ fn put_answer(
     line: &[u8],
     verdict: SheetAnswer,
     sheet: &[u32],
+    air: &[u32; rows::ROWS],
+    psis: &[u32; rows::ROWS],
+    cps: &[u32; rows::ROWS],
     out: &mut [u8],
     at: usize,
 ) -> usize
-    requires { ⌜ Judged verdict (now sheet) × (at + answerRoom ≤ length (now out)) ⌝ }
+    requires { ⌜ Judged verdict (now sheet) × (at + answerRoom ≤ length (now out)) × Columns (now air) (now psis) (now cps) ⌝ }
 {
     match held {
         Held::Bytes(n) => {
             let end = lines::end_of(n, line);
-            console::inner::answer_judged(&line[0..end], verdict, sheet, out, at)
+            console::inner::answer_judged(&line[0..end], verdict, sheet, air, psis, cps, out, at)
         }
         Held::Over => text::put_text(b"error\tthe line is too long\n", out, at),
     }

@@ -13,7 +13,7 @@ use arguments::Job;
 use arguments::Named;
 use sheet::SheetAnswer;
 use sheets::Text;
-ghost use Rattle.console.specs.Answers.{Judged};
+ghost use Rattle.console.specs.Answers.{Columns, Judged};
 
 // Does what the arguments ask for.
 pub fn run() {
@@ -27,38 +27,57 @@ pub fn run() {
     }
 }
 
-// Does a job over the sheet that is named, or over the built-in one. It is judged once.
+// Does a job over the sheet that is named, or over the built-in one. It is judged once, and the columns of Table 1 are built once and lent down.
 fn over_sheet(job: Job, named: Named) {
+    let air = rows::columns::heat_column();
+    let psis = rows::columns::psi_column();
+    let cps = rows::columns::cp_column();
     let mut list = built_in::sheet();
     match named {
         Named::Nothing => {
-            let verdict = sheet::judge_sheet(&list);
-            serve(job, verdict, &list);
+            let verdict = sheet::inner::judge(&list, &air);
+            serve(job, verdict, &list, &air, &psis, &cps);
         }
-        Named::Argument(i) => over_file(job, i, &mut list),
+        Named::Argument(i) => over_file(job, i, &mut list, &air, &psis, &cps),
     }
 }
 
 // Does a job over the sheet of a file.
-fn over_file(job: Job, i: usize, list: &mut [u32]) {
+fn over_file(
+    job: Job,
+    i: usize,
+    list: &mut [u32],
+    air: &[u32; rows::ROWS],
+    psis: &[u32; rows::ROWS],
+    cps: &[u32; rows::ROWS],
+)
+    requires { ⌜ Columns (now air) (now psis) (now cps) ⌝ }
+{
     let mut bytes = io::large_buffer();
     match sheets::read(i, &mut bytes) {
         Text::Bytes(n) => {
             let verdict = sheets::judge(&bytes[..n], list);
             sheets::say_return(verdict, &bytes[..n]);
-            serve(job, verdict, list);
+            serve(job, verdict, list, air, psis, cps);
         }
         Text::Unread => (),
     }
 }
 
 // Does a job over a sheet that was judged.
-fn serve(job: Job, verdict: SheetAnswer, sheet: &[u32])
-    requires { ⌜ Judged verdict (now sheet) ⌝ }
+fn serve(
+    job: Job,
+    verdict: SheetAnswer,
+    sheet: &[u32],
+    air: &[u32; rows::ROWS],
+    psis: &[u32; rows::ROWS],
+    cps: &[u32; rows::ROWS],
+)
+    requires { ⌜ Judged verdict (now sheet) × Columns (now air) (now psis) (now cps) ⌝ }
 {
     match job {
-        Job::Example => pages::print_example(verdict, sheet),
-        Job::Walk(named) => questions::print(named, verdict, sheet),
-        Job::Ask => asking::ask(verdict, sheet),
+        Job::Example => pages::print_example(verdict, sheet, air),
+        Job::Walk(named) => questions::print(named, verdict, sheet, air),
+        Job::Ask => asking::ask(verdict, sheet, air, psis, cps),
     }
 }

@@ -3,6 +3,8 @@ use air::Millikelvin;
 use gas::Charge;
 use sheet::SheetAnswer;
 use stream::Output;
+ghost use mathlib.Core.Path.{_≡_};
+ghost use Rattle.rows.specs.Rows.{rowsH};
 ghost use Rattle.console.specs.Answers.{Judged};
 
 // How to go on.
@@ -72,8 +74,8 @@ pub(crate) fn say_returned_row(row: u32) {
 }
 
 // Prints document 01's walk, A 1, no fuel, from 200,000 mK, and how to go on.
-pub(crate) fn print_example(verdict: SheetAnswer, sheet: &[u32])
-    requires { ⌜ Judged verdict (now sheet) ⌝ }
+pub(crate) fn print_example(verdict: SheetAnswer, sheet: &[u32], air: &[u32; rows::ROWS])
+    requires { ⌜ Judged verdict (now sheet) × (now air ≡ rowsH) ⌝ }
 {
     let mut out = io::buffer();
     let steps = [0i64, 0, 0, 1_200_000_001, 0, 0, 0, 2_400_000];
@@ -88,6 +90,7 @@ pub(crate) fn print_example(verdict: SheetAnswer, sheet: &[u32])
         &steps,
         verdict,
         sheet,
+        air,
         &mut out,
         0,
     );

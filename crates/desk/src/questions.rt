@@ -6,7 +6,6 @@ use crate::lines;
 use crate::refusals;
 use air::Millikelvin;
 use fields::Four;
-use gas::Charge;
 use libc::STDIN_FILENO;
 use sheet::SheetAnswer;
 use stream::Got;
@@ -15,6 +14,7 @@ use stream::Output;
 ghost use Prim.Native.Nat.{_+_, _≤_, min};
 ghost use mathlib.Core.Path.{_≡_};
 ghost use lib.ListN.{length, set};
+ghost use Rattle.rows.specs.Rows.{rowsH};
 ghost use Rattle.text.specs.Put.{Put};
 ghost use Rattle.console.specs.Limits.{pageRoom};
 ghost use Rattle.console.specs.Answers.{Judged};
@@ -41,18 +41,18 @@ struct Turn {
 }
 
 // Prints the walk of the question in a file, or on standard input.
-pub(crate) fn print(named: Named, verdict: SheetAnswer, sheet: &[u32])
-    requires { ⌜ Judged verdict (now sheet) ⌝ }
+pub(crate) fn print(named: Named, verdict: SheetAnswer, sheet: &[u32], air: &[u32; rows::ROWS])
+    requires { ⌜ Judged verdict (now sheet) × (now air ≡ rowsH) ⌝ }
 {
     match named {
-        Named::Nothing => print_from(STDIN_FILENO, b"standard input", verdict, sheet),
-        Named::Argument(i) => print_file(i, verdict, sheet),
+        Named::Nothing => print_from(STDIN_FILENO, b"standard input", verdict, sheet, air),
+        Named::Argument(i) => print_file(i, verdict, sheet, air),
     }
 }
 
 // Prints the walk of the question in the file that an argument names.
-fn print_file(i: usize, verdict: SheetAnswer, sheet: &[u32])
-    requires { ⌜ Judged verdict (now sheet) ⌝ }
+fn print_file(i: usize, verdict: SheetAnswer, sheet: &[u32], air: &[u32; rows::ROWS])
+    requires { ⌜ Judged verdict (now sheet) × (now air ≡ rowsH) ⌝ }
 {
     let mut name = io::buffer();
     let n = arguments::show(i, &mut name);
@@ -60,13 +60,13 @@ fn print_file(i: usize, verdict: SheetAnswer, sheet: &[u32])
     if fd < 0 {
         return;
     }
-    print_from(fd, &name[..n], verdict, sheet);
+    print_from(fd, &name[..n], verdict, sheet, air);
     libc::close(fd);
 }
 
 // Prints the walk of an input's question, or says what is wrong with it.
-fn print_from(fd: i32, name: &[u8], verdict: SheetAnswer, sheet: &[u32])
-    requires { ⌜ Judged verdict (now sheet) ⌝ }
+fn print_from(fd: i32, name: &[u8], verdict: SheetAnswer, sheet: &[u32], air: &[u32; rows::ROWS])
+    requires { ⌜ Judged verdict (now sheet) × (now air ≡ rowsH) ⌝ }
 {
     let mut piece = io::large_buffer();
     let mut line = lines::places();
@@ -76,7 +76,7 @@ fn print_from(fd: i32, name: &[u8], verdict: SheetAnswer, sheet: &[u32])
             if lines == 0 {
                 say_bad(1);
             } else {
-                print_walk(lines, &numbers, verdict, sheet);
+                print_walk(lines, &numbers, verdict, sheet, air);
             }
         }
         Question::Bad(line) => say_bad(line),
@@ -217,17 +217,14 @@ fn put_page(
     numbers: &[i64],
     verdict: SheetAnswer,
     sheet: &[u32],
+    air: &[u32; rows::ROWS],
     out: &mut [u8],
     at: usize,
 ) -> usize
-    requires { ⌜ Judged verdict (now sheet) × (length (now numbers) ≡ keptNumbers) × (1 ≤ lines) × (at + pageRoom ≤ length (now out)) ⌝ }
+    requires { ⌜ Judged verdict (now sheet) × (length (now numbers) ≡ keptNumbers) × (1 ≤ lines) × (at + pageRoom ≤ length (now out)) × (now air ≡ rowsH) ⌝ }
     ensures { λ r. ⌜ Put (questionPage verdict (now (sheet .entry)) lines (now (numbers .entry))) (now (out .entry)) at r (now (out .exit)) ⌝ }
 {
-    let start = Charge {
-        air: numbers[0],
-        carbon: numbers[1],
-        hydrogen: numbers[2],
-    };
+    let start = gas::inner::charge_in(numbers);
     let t = Millikelvin(numbers[3]);
     let end = walk::STEP_NUMBERS * kept(lines);
     console::inner::print_judged(
@@ -236,6 +233,7 @@ fn put_page(
         &numbers[walk::STEP_NUMBERS..end],
         verdict,
         sheet,
+        air,
         out,
         at,
     )
@@ -249,14 +247,14 @@ fn page() -> [u8; console::PAGE_ROOM]
 }
 
 // Prints the walk of a question of so many lines.
-fn print_walk(lines: u64, numbers: &[i64], verdict: SheetAnswer, sheet: &[u32])
-    requires { ⌜ Judged verdict (now sheet) × (length (now numbers) ≡ keptNumbers) × (1 ≤ lines) ⌝ }
+fn print_walk(lines: u64, numbers: &[i64], verdict: SheetAnswer, sheet: &[u32], air: &[u32; rows::ROWS])
+    requires { ⌜ Judged verdict (now sheet) × (length (now numbers) ≡ keptNumbers) × (1 ≤ lines) × (now air ≡ rowsH) ⌝ }
 {
     let mut out = page();
-    let next = put_page(lines, numbers, verdict, sheet, &mut out, 0);
+    let next = put_page(lines, numbers, verdict, sheet, air, &mut out, 0);
     stream::flush(&out, Output::At(next));
     let end = walk::STEP_NUMBERS * kept(lines);
-    refusals::say(numbers, end, verdict, sheet);
+    refusals::say(numbers, end, verdict, sheet, air);
 }
 
 // Says on standard error which line is not what was expected.

@@ -7,30 +7,35 @@ use walk::WalkAnswer;
 ghost use Prim.Native.Nat.{_≤_};
 ghost use mathlib.Core.Path.{_≡_};
 ghost use lib.ListN.{length};
+ghost use Rattle.rows.specs.Rows.{rowsH};
+ghost use Rattle.sheet.specs.Sheet.{Accepted};
 ghost use Rattle.walk.specs.Limits.{stepNumbers};
+ghost use Rattle.console.specs.Answers.{Judged};
 ghost use Rattle.desk.specs.Limits.{keptNumbers};
 
 // Says what the walk of the numbers before `end` was refused for, if it was.
-pub(crate) fn say(numbers: &[i64], end: usize, verdict: SheetAnswer, sheet: &[u32])
-    requires { ⌜ (length (now numbers) ≡ keptNumbers) × (stepNumbers ≤ end) × (end ≤ keptNumbers) ⌝ }
+pub(crate) fn say(
+    numbers: &[i64],
+    end: usize,
+    verdict: SheetAnswer,
+    sheet: &[u32],
+    air: &[u32; rows::ROWS],
+)
+    requires { ⌜ (length (now numbers) ≡ keptNumbers) × (stepNumbers ≤ end) × (end ≤ keptNumbers) × Judged verdict (now sheet) × (now air ≡ rowsH) ⌝ }
 {
     match verdict {
-        SheetAnswer::Good => say_walk(numbers, end, sheet),
+        SheetAnswer::Good => say_walk(numbers, end, sheet, air),
         SheetAnswer::Refused(refusal) => say_sheet(refusal),
     }
 }
 
 // Says what the walk over a sheet that was found good was refused for.
-fn say_walk(numbers: &[i64], end: usize, sheet: &[u32])
-    requires { ⌜ (length (now numbers) ≡ keptNumbers) × (stepNumbers ≤ end) × (end ≤ keptNumbers) ⌝ }
+fn say_walk(numbers: &[i64], end: usize, sheet: &[u32], air: &[u32; rows::ROWS])
+    requires { ⌜ (length (now numbers) ≡ keptNumbers) × (stepNumbers ≤ end) × (end ≤ keptNumbers) × Accepted (now sheet) × (now air ≡ rowsH) ⌝ }
 {
-    let start = Charge {
-        air: numbers[0],
-        carbon: numbers[1],
-        hydrogen: numbers[2],
-    };
+    let start = gas::inner::charge_in(numbers);
     let t = Millikelvin(numbers[3]);
-    match course(start, t, &numbers[walk::STEP_NUMBERS..end], sheet) {
+    match course(start, t, &numbers[walk::STEP_NUMBERS..end], sheet, air) {
         WalkAnswer::Done(_, _, _) => (),
         WalkAnswer::Stopped(done, number, _, _) => say_step(done as u64 + 1, number),
         WalkAnswer::Refused(refusal) => say_start(refusal),
@@ -38,18 +43,27 @@ fn say_walk(numbers: &[i64], end: usize, sheet: &[u32])
 }
 
 // The answer of a walk.
-fn course(start: Charge, t: Millikelvin, steps: &[i64], sheet: &[u32]) -> WalkAnswer {
+fn course(
+    start: Charge,
+    t: Millikelvin,
+    steps: &[i64],
+    sheet: &[u32],
+    air: &[u32; rows::ROWS],
+) -> WalkAnswer
+    requires { ⌜ Accepted (now sheet) × (now air ≡ rowsH) ⌝ }
+{
     let mut temperatures = [0i64; walk::MOST_STEPS];
     let mut rests = [0i64; walk::MOST_STEPS];
     let mut looks = [0u32; walk::MOST_LOOKS];
-    walk::walk(
+    walk::inner::walk_judged(
         start,
         t,
-        sheet,
         steps,
         &mut temperatures,
         &mut rests,
         &mut looks,
+        sheet,
+        air,
     )
 }
 

@@ -2,8 +2,10 @@
 -- of 100 g. The weights and limits are a parameter of every definition, and document 01's are the one instance.
 use mathlib.Core.Path.{_≡_}
 use mathlib.Core.Bool.{Bool, true, _||_}
+use mathlib.Core.List.{List}
 use Prim.Native.Nat.{ℕ, _+_, _*_, _/_, _<_, _≤_}
 use lib.IntN.{ℤ, pos, _-ℤ_}
+use lib.ListN.{getD}
 use lib.Signed.{leZ}
 use Rattle.signed.specs.Zed.{up, outside}
 use Rattle.gas.specs.declared.Charge.{Charge}
@@ -41,6 +43,10 @@ pub record Sound (w : Weights) : Type 0 where
   pub even : w .oxygen / 2 * 2 ≡ w .oxygen
   pub whole : w .airO2 + w .airN2 + w .airAr ≡ w .airPart
   pub thin : 4 * w .airO2 < w .airPart
+
+-- the charge of its numbers, A, c, h: what reads a charge goes through it
+abbrev pub chargeIn : List ℤ → Charge
+chargeIn numbers = record { air = getD numbers 0 (pos 0); carbon = getD numbers 1 (pos 0); hydrogen = getD numbers 2 (pos 0) }
 
 -- a charge is A parts of air, c moles of carbon, h moles of hydrogen atoms
 abbrev pub gasOf : Charge → Gas

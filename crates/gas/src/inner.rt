@@ -22,7 +22,7 @@ ghost use Rattle.rows.specs.Rows.{rowsH};
 ghost use Rattle.refusal.specs.Refusals.{first};
 ghost use Rattle.air.specs.Limits.{lookPlaces, coldest, hottest};
 ghost use Rattle.sheet.specs.Sheet.{Accepted};
-ghost use Rattle.gas.specs.Burning.{document01, gasOf, beyond as Burning·beyond, Limits, lean as Burning·lean, Burns, fuelMass, totalMass};
+ghost use Rattle.gas.specs.Burning.{document01, chargeIn, gasOf, beyond as Burning·beyond, Limits, lean as Burning·lean, Burns, fuelMass, totalMass};
 ghost use Rattle.gas.specs.Heat.{gasHeat, contentAbove15, specificContent};
 ghost use Rattle.gas.specs.Answers.{paperGas, paperHeat, paperSpecific, chargeLines, temperatureLines, heatTold, contentTold, specificTold, Inverse, Temperature};
 
@@ -30,6 +30,18 @@ ghost use Rattle.gas.specs.Answers.{paperGas, paperHeat, paperSpecific, 
 pub enum Admitted {
     Burning(Gas),
     Refused(Refusal),
+}
+
+// The charge of its numbers: A, c, h.
+pub fn charge_in(numbers: &[i64]) -> Charge
+    requires { ⌜ 3 ≤ length (now numbers) ⌝ }
+    ensures { λ r. ⌜ r ≡ chargeIn (now (numbers .entry)) ⌝ }
+{
+    Charge {
+        air: numbers[0],
+        carbon: numbers[1],
+        hydrogen: numbers[2],
+    }
 }
 
 // Whether A, c or h is outside its limit.
@@ -67,7 +79,7 @@ pub fn lean(gas: Gas) -> bool
 }
 
 // The gas of a charge, refusals 4 and 5 tested.
-pub fn admit(charge: Charge) -> Admitted
+pub(crate) fn admit(charge: Charge) -> Admitted
     ensures { λ r. ⌜ paperGas r ≡ first (chargeLines document01 charge) (gasOf charge) ⌝ }
 {
     if beyond(charge) {
@@ -121,7 +133,7 @@ pub fn heat_at(gas: Gas, t: Millikelvin, sheet: &[u32], air: &[u32; rows::ROWS])
 }
 
 // The content above 15 °C at a temperature.
-pub fn content_at(gas: Gas, t: Millikelvin, sheet: &[u32], air: &[u32; rows::ROWS]) -> Heat
+pub(crate) fn content_at(gas: Gas, t: Millikelvin, sheet: &[u32], air: &[u32; rows::ROWS]) -> Heat
     requires { ⌜ Burns document01 gas × Accepted (now sheet) × (now air ≡ rowsH) × (inZ (pos coldest) (pos hottest) (t .0) ≡ true) ⌝ }
     ensures { λ r. ⌜ r .0 ≡ contentAbove15 document01 (now (sheet .entry)) gas (up (t .0)) ⌝ }
 {

@@ -14,6 +14,7 @@ use Rattle.air.specs.Inverse.{Found}
 use Rattle.gas.specs.declared.Products.{Products}
 use Rattle.gas.specs.declared.Charge.{Charge}
 use Rattle.walk.specs.Walk.{Course, done, stopped}
+use Rattle.marking.specs.declared.inner.StationNumbers.{StationNumbers}
 
 -- ok
 abbrev pub okText : List ℕ
@@ -65,14 +66,12 @@ valueText z = okText ++ (9 ∷ decimalZ z)
 abbrev pub wholeText : Told ℤ → List ℕ
 wholeText = toldText valueText
 
--- a station's figures, whole numbers all: mK, specific content, total mass
-pub record Figures : Type 0 where
-  pub mk : ℤ
-  pub specific : ℤ
-  pub mass : ℤ
+-- a station in whole numbers: mK, specific content, total mass
+abbrev pub numbersText : StationNumbers → List ℕ
+numbersText n = ((okText ++ (9 ∷ decimalZ (n .mk))) ++ (9 ∷ decimalZ (n .specific))) ++ (9 ∷ decimalZ (n .mass))
 
-abbrev pub figuresText : Figures → List ℕ
-figuresText f = ((okText ++ (9 ∷ decimalZ (f .mk))) ++ (9 ∷ decimalZ (f .specific))) ++ (9 ∷ decimalZ (f .mass))
+abbrev pub stationText : Told StationNumbers → List ℕ
+stationText = toldText numbersText
 
 -- the products of a charge: CO2, H2O, O2, N2, Ar
 abbrev pub productsText : Products → List ℕ

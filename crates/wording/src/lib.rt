@@ -9,6 +9,7 @@ use gas::Products;
 use gas::SpecificAnswer;
 use gas::TemperatureAnswer;
 use marking::MarkAnswer;
+use marking::inner::NumbersAnswer;
 use refusal::Refusal;
 use walk::WalkAnswer;
 ghost use Prim.Native.Nat.{_≤_};
@@ -21,8 +22,9 @@ ghost use Rattle.text.specs.Put.{Put};
 ghost use Rattle.air.specs.Answers.{paperReading, paperPsi};
 ghost use Rattle.gas.specs.Answers.{paperHeat, paperSpecific, paperTemperature};
 ghost use Rattle.walk.specs.Walk.{paperWalk};
+ghost use Rattle.marking.specs.Figures.{paperNumbers};
 ghost use Rattle.marking.specs.Marking.{paper};
-ghost use Rattle.wording.specs.Texts.{refusalText, toldText, fieldsText, used, countedText, readingText, inverseText, productsText, wholeText, markText, stateText, courseText};
+ghost use Rattle.wording.specs.Texts.{refusalText, toldText, fieldsText, used, countedText, readingText, inverseText, productsText, wholeText, stationText, markText, stateText, courseText};
 
 // A tab and a number.
 pub fn put_number(n: u64, out: &mut [u8], at: usize) -> usize
@@ -169,6 +171,21 @@ pub fn put_temperature(answer: TemperatureAnswer, looks: &[u32], out: &mut [u8],
             put_looks(looks, out, last)
         }
         TemperatureAnswer::Refused(refusal) => put_refusal(refusal, out, at),
+    }
+}
+
+// `ok`, a station's mK, specific content and total mass, or its refusal.
+pub fn put_station(answer: NumbersAnswer, out: &mut [u8], at: usize) -> usize
+    ensures { λ r. ⌜ Put (stationText (paperNumbers answer)) (now (out .entry)) at r (now (out .exit)) ⌝ }
+{
+    match answer {
+        NumbersAnswer::Are(n) => {
+            let ok = text::put_text(b"ok", out, at);
+            let next = put_signed(n.mk, out, ok);
+            let after = put_signed(n.specific, out, next);
+            put_signed(n.mass, out, after)
+        }
+        NumbersAnswer::Refused(refusal) => put_refusal(refusal, out, at),
     }
 }
 

@@ -1,40 +1,16 @@
 use borrow.Author.Needs.{needs}
-use mathlib.Core.List.{List}
-use mathlib.Core.Path.{_≡_, refl, ap, _∙_}
-use Prim.Native.Nat.{ℕ}
-use Rattle.rows.specs.Limits.{firstKelvin, lastKelvin}
-use Rattle.rows.specs.Table.{column, airCp}
-use Rattle.rows.specs.Rows.{rowsCp}
-use Rattle.signed.specs.Zed.{in-plain, tested, tested-plain, tested-nat}
-use Rattle.refusal.specs.Refusals.{gives}
+use Rattle.signed.specs.Zed.{back}
 use Rattle.air.proofs.cp.Statement.{statement}
 use Rattle.air.proofs.cp.Tie as tie
-
-cp-figure : {rows : List ℕ} {k m r : ℕ} → r ≡ column rows k → rows ≡ rowsCp → k ≡ m → r ≡ airCp m
-unfolding airCp
-cp-figure {k} h e n = h ∙ ap (λ (l : List ℕ). column l k) e ∙ ap (column rowsCp) n
-
-inside-requires : tie.Need-inside-requires
-inside-requires c κs = search needs
-
-returns : tie.Need-returns
-returns c = rw (tested firstKelvin lastKelvin (c .before .before .fits .kelvin) (in-plain _ _ (c .before .before .fits .kelvin) (c .before .inside .ensures)) (c .if1 .taken)) refl
 
 cp-column-requires : tie.Need-cp-column-requires
 cp-column-requires c κs = search needs
 
-to-u64-requires : tie.Need-to-u64-requires
-to-u64-requires c κs = tested-plain firstKelvin lastKelvin (c .before .before .before .before .fits .kelvin) (in-plain _ _ (c .before .before .before .before .fits .kelvin) (c .before .before .before .inside .ensures)) (c .before .before .if1 .left)
+cp-lent-requires : tie.Need-cp-lent-requires
+cp-lent-requires c κs = search needs
 
-figure-requires : tie.Need-figure-requires
-figure-requires c κs = let n = tested-nat firstKelvin lastKelvin (c .before .before .before .before .before .fits .kelvin) (in-plain _ _ (c .before .before .before .before .before .fits .kelvin) (c .before .before .before .before .inside .ensures)) (c .before .before .before .if1 .left) (c .to-u64 .ensures) in (n .least, n .most)
-
-returns-2 : tie.Need-returns-2
-returns-2 c =
-    let n = tested-nat firstKelvin lastKelvin (c .before .before .before .before .before .before .fits .kelvin) (in-plain _ _ (c .before .before .before .before .before .before .fits .kelvin) (c .before .before .before .before .before .inside .ensures)) (c .before .before .before .before .if1 .left) (c .before .to-u64 .ensures) in
-    rw (tested firstKelvin lastKelvin (c .before .before .before .before .before .before .fits .kelvin) (in-plain _ _ (c .before .before .before .before .before .before .fits .kelvin) (c .before .before .before .before .before .inside .ensures)) (c .before .before .before .before .if1 .left)) (ap gives (cp-figure (c .figure .ensures .0) (c .before .before .before .cp-column .ensures) (n .number)))
+returns : tie.Need-returns
+returns c = rw (back (c .before .before .before .fits .kelvin)) at (c .cp-lent .ensures)
 
 pub cp-spec : {M : Type 1} → statement M
-cp-spec =
-    tie.close
-    (tie.spec inside-requires returns cp-column-requires to-u64-requires figure-requires returns-2)
+cp-spec = tie.close (tie.spec cp-column-requires cp-lent-requires returns)

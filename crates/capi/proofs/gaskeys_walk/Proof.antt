@@ -4,6 +4,12 @@ use Rattle.capi.proofs.Promised.{walk-told}
 use Rattle.capi.proofs.gaskeys_walk.Statement.{statement}
 use Rattle.capi.proofs.gaskeys_walk.Tie as tie
 
+slice-aggregate-charge-in : tie.Need-slice-aggregate-charge-in
+slice-aggregate-charge-in c = search needs
+
+charge-in-requires : tie.Need-charge-in-requires
+charge-in-requires c κs = search needs
+
 walk-requires : tie.Need-walk-requires
 walk-requires c κs = search needs
 
@@ -20,9 +26,9 @@ same-length-3 : tie.Need-same-length-3
 same-length-3 c = search needs
 
 returns : tie.Need-returns
-returns c = let s = c .before .before .before .before .before .before .before .before .before .before .before in rw (← back (s .fits .air), ← back (s .fits .carbon), ← back (s .fits .hydrogen), ← back (s .fits .millikelvin)) (walk-told (c .before .before .before .before .before .walk .ensures) (c .tell-walk .ensures))
+returns c = let s = c .before .before .before .before .before .before .before .before .before .before .before .before .before in rw (← back (s .fits .air), ← back (s .fits .carbon), ← back (s .fits .hydrogen), ← back (s .fits .millikelvin)) (walk-told (rw (c .before .before .before .before .before .before .before .before .before .charge-in .ensures) at (c .before .before .before .before .before .walk .ensures)) (c .tell-walk .ensures))
 
 pub gaskeys-walk-spec : {M : Type 1} → statement M
 gaskeys-walk-spec =
     tie.close
-    (tie.spec walk-requires tell-walk-requires same-length same-length-2 same-length-3 returns)
+    (tie.spec slice-aggregate-charge-in charge-in-requires walk-requires tell-walk-requires same-length same-length-2 same-length-3 returns)

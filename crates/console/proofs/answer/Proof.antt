@@ -1,20 +1,31 @@
 use Rattle.console.specs.Answers.{ofList}
-use Rattle.console.specs.JudgedLaws.{judged-once}
+use Rattle.console.specs.VerdictLaws.{judged-once}
 use borrow.Author.Needs.{needs}
 use Rattle.console.proofs.answer.Statement.{statement}
 use Rattle.console.proofs.answer.Tie as tie
 
-judge-sheet-requires : tie.Need-judge-sheet-requires
-judge-sheet-requires c κs = search needs
+heat-column-requires : tie.Need-heat-column-requires
+heat-column-requires c κs = search needs
+
+psi-column-requires : tie.Need-psi-column-requires
+psi-column-requires c κs = search needs
+
+cp-column-requires : tie.Need-cp-column-requires
+cp-column-requires c κs = search needs
+
+judge-requires : tie.Need-judge-requires
+judge-requires c κs = search needs
 
 answer-judged-requires : tie.Need-answer-judged-requires
-answer-judged-requires c κs = ofList (c .before .judge-sheet .ensures)
+answer-judged-requires c κs = (ofList (c .before .before .before .before .judge .ensures), record { heats-are = c .before .before .before .before .before .before .before .before .heat-column .ensures; psis-are = c .before .before .before .before .before .before .before .psi-column .ensures; cps-are = c .before .before .before .before .before .before .cp-column .ensures })
 
 same-length : tie.Need-same-length
 same-length c = search needs
 
 returns : tie.Need-returns
-returns c = rw (judged-once (c .before .before .before .before .before .before .before .before .args .sheet .now) (c .before .before .before .before .before .before .before .before .args .line .now) (c .before .before .before .before .judge-sheet .result) (c .before .before .before .before .judge-sheet .ensures)) at (c .before .before .answer-judged .ensures)
+returns c =
+    let s = c .before .before .before .before .before .before .before .before .before .before .before .before .before .before .before in
+    rw (judged-once (s .args .sheet .now) (s .args .line .now) (c .before .before .before .before .before .before .before .judge .result) (c .before .before .before .before .before .before .before .judge .ensures)) at (c .before .before .answer-judged .ensures)
 
 pub answer-spec : {M : Type 1} → statement M
-answer-spec = tie.close (tie.spec judge-sheet-requires answer-judged-requires same-length returns)
+answer-spec = tie.close (tie.spec heat-column-requires psi-column-requires cp-column-requires judge-requires answer-judged-requires same-length returns)

@@ -40,7 +40,7 @@ say-return-requires : tie.Need-say-return-requires
 say-return-requires c κs = search needs
 
 serve-requires : tie.Need-serve-requires
-serve-requires c κs = ofText (c .before .before .before .before .before .judge .ensures)
+serve-requires c κs = (ofText (c .before .before .before .before .before .judge .ensures), c .before .before .before .before .before .before .before .before .before .before .before .before .before .before .before .before .pre)
 
 enum-told : tie.Need-enum-told
 enum-told c = search needs

@@ -3,23 +3,32 @@ use borrow.Author.Needs.{needs}
 use Rattle.desk.proofs.over_sheet.Statement.{statement}
 use Rattle.desk.proofs.over_sheet.Tie as tie
 
+heat-column-requires : tie.Need-heat-column-requires
+heat-column-requires c κs = search needs
+
+psi-column-requires : tie.Need-psi-column-requires
+psi-column-requires c κs = search needs
+
+cp-column-requires : tie.Need-cp-column-requires
+cp-column-requires c κs = search needs
+
 sheet-requires : tie.Need-sheet-requires
 sheet-requires c κs = search needs
 
 enum-told : tie.Need-enum-told
 enum-told c = search needs
 
-slice-aggregate-judge-sheet : tie.Need-slice-aggregate-judge-sheet
-slice-aggregate-judge-sheet c = search needs
+slice-aggregate-judge : tie.Need-slice-aggregate-judge
+slice-aggregate-judge c = search needs
 
-judge-sheet-requires : tie.Need-judge-sheet-requires
-judge-sheet-requires c κs = search needs
+judge-requires : tie.Need-judge-requires
+judge-requires c κs = search needs
 
 slice-aggregate-serve : tie.Need-slice-aggregate-serve
 slice-aggregate-serve c = search needs
 
 serve-requires : tie.Need-serve-requires
-serve-requires c κs = ofList (c .before .judge-sheet .ensures)
+serve-requires c κs = (ofList (c .before .before .before .before .judge .ensures), record { heats-are = c .before .before .before .before .before .before .before .before .before .before .before .before .heat-column .ensures; psis-are = c .before .before .before .before .before .before .before .before .before .before .before .psi-column .ensures; cps-are = c .before .before .before .before .before .before .before .before .before .before .cp-column .ensures })
 
 enum-known-named : tie.Need-enum-known-named
 enum-known-named c = search needs
@@ -28,7 +37,7 @@ slice-aggregate-over-file : tie.Need-slice-aggregate-over-file
 slice-aggregate-over-file c = search needs
 
 over-file-requires : tie.Need-over-file-requires
-over-file-requires c κs = search needs
+over-file-requires c κs = record { heats-are = c .before .before .before .before .before .before .before .before .before .before .heat-column .ensures; psis-are = c .before .before .before .before .before .before .before .before .before .psi-column .ensures; cps-are = c .before .before .before .before .before .before .before .before .cp-column .ensures }
 
 returns : tie.Need-returns
 returns c = search needs
@@ -40,10 +49,13 @@ pub over-sheet-spec : {M : Type 1} → statement M
 over-sheet-spec =
     tie.close
     (tie.spec
+    heat-column-requires
+    psi-column-requires
+    cp-column-requires
     sheet-requires
     enum-told
-    slice-aggregate-judge-sheet
-    judge-sheet-requires
+    slice-aggregate-judge
+    judge-requires
     slice-aggregate-serve
     serve-requires
     enum-known-named

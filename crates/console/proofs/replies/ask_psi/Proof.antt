@@ -4,11 +4,11 @@ use borrow.Author.Needs.{needs}
 use Rattle.console.proofs.replies.ask_psi.Statement.{statement}
 use Rattle.console.proofs.replies.ask_psi.Tie as tie
 
-slice-aggregate-psi-inverse : tie.Need-slice-aggregate-psi-inverse
-slice-aggregate-psi-inverse c = search needs
+slice-aggregate-psi-inverse-lent : tie.Need-slice-aggregate-psi-inverse-lent
+slice-aggregate-psi-inverse-lent c = search needs
 
-psi-inverse-requires : tie.Need-psi-inverse-requires
-psi-inverse-requires c κs = search needs
+psi-inverse-lent-requires : tie.Need-psi-inverse-lent-requires
+psi-inverse-lent-requires c κs = search needs
 
 slice-aggregate-put-psi : tie.Need-slice-aggregate-put-psi
 slice-aggregate-put-psi c = search needs
@@ -20,14 +20,14 @@ same-length : tie.Need-same-length
 same-length c = search needs
 
 returns : tie.Need-returns
-returns c = rw (back (c .before .before .before .before .before .before .before .before .before .fits .psi)) at (rw (psi-shown (c .before .before .before .before .before .before .psi-inverse .ensures)) at (c .before .before .put-psi .ensures))
+returns c = rw (back (c .before .before .before .before .before .before .before .before .before .fits .target)) at (rw (psi-shown (c .before .before .before .before .before .before .psi-inverse-lent .ensures)) at (c .before .before .put-psi .ensures))
 
 pub ask-psi-spec : {M : Type 1} → statement M
 ask-psi-spec =
     tie.close
     (tie.spec
-    slice-aggregate-psi-inverse
-    psi-inverse-requires
+    slice-aggregate-psi-inverse-lent
+    psi-inverse-lent-requires
     slice-aggregate-put-psi
     put-psi-requires
     same-length

@@ -4,11 +4,11 @@ use borrow.Author.Needs.{needs}
 use Rattle.console.proofs.replies.ask_temperature.Statement.{statement}
 use Rattle.console.proofs.replies.ask_temperature.Tie as tie
 
-slice-aggregate-temperature : tie.Need-slice-aggregate-temperature
-slice-aggregate-temperature c = search needs
+slice-aggregate-temperature-judged : tie.Need-slice-aggregate-temperature-judged
+slice-aggregate-temperature-judged c = search needs
 
-temperature-requires : tie.Need-temperature-requires
-temperature-requires c κs = search needs
+temperature-judged-requires : tie.Need-temperature-judged-requires
+temperature-judged-requires c κs = search needs
 
 slice-aggregate-put-temperature : tie.Need-slice-aggregate-put-temperature
 slice-aggregate-put-temperature c = search needs
@@ -20,14 +20,14 @@ same-length : tie.Need-same-length
 same-length c = search needs
 
 returns : tie.Need-returns
-returns c = rw (back (c .before .before .before .before .before .before .before .before .before .before .fits .target)) at (rw (temperature-shown (c .before .before .before .before .before .before .before .before .before .before .args .charge) _ (c .before .before .before .before .before .before .before .before .before .before .args .sheet .now) (c .before .before .before .before .before .before .temperature .ensures)) at (c .before .before .put-temperature .ensures))
+returns c = rw (back (c .before .before .before .before .before .before .before .before .before .before .fits .target)) at (rw (temperature-shown (c .before .before .before .before .before .before .before .before .before .before .args .charge) _ (c .before .before .before .before .before .before .before .before .before .before .args .sheet .now) (c .before .before .before .before .before .before .temperature-judged .ensures)) at (c .before .before .put-temperature .ensures))
 
 pub ask-temperature-spec : {M : Type 1} → statement M
 ask-temperature-spec =
     tie.close
     (tie.spec
-    slice-aggregate-temperature
-    temperature-requires
+    slice-aggregate-temperature-judged
+    temperature-judged-requires
     slice-aggregate-put-temperature
     put-temperature-requires
     same-length

@@ -1,4 +1,4 @@
-use Rattle.console.specs.JudgedLaws.{ready}
+use Rattle.console.specs.VerdictLaws.{ready}
 use borrow.Author.Needs.{needs}
 use Rattle.console.proofs.replies.reply.Statement.{statement}
 use Rattle.console.proofs.replies.reply.Tie as tie
@@ -31,7 +31,7 @@ asked-of-requires : tie.Need-asked-of-requires
 asked-of-requires c κs = search needs
 
 reply-gas-requires : tie.Need-reply-gas-requires
-reply-gas-requires c κs = rw (c .before .asked-of .ensures) (ready (c .before .before .before .before .before .before .before .before .before .args .sheet .now) (c .before .before .read-four .result) (c .before .before .before .before .before .before .before .before .before .args .verdict) (c .before .before .before .before .before .before .before .before .before .pre))
+reply-gas-requires c κs = let s = c .before .before .before .before .before .before .before .before .before in (rw (c .before .asked-of .ensures) (ready (s .args .sheet .now) (c .before .before .read-four .result) (s .args .verdict) (s .pre .0)), s .pre .1 .heats-are)
 
 enum-told-2 : tie.Need-enum-told-2
 enum-told-2 c = search needs

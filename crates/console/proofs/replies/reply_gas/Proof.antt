@@ -12,7 +12,7 @@ enum-known-asked : tie.Need-enum-known-asked
 enum-known-asked c = search needs
 
 tell-gas-requires : tie.Need-tell-gas-requires
-tell-gas-requires c κs = subst (λ (a : Asked). Ready a (c .before .before .before .before .before .before .args .sheet .now)) (c .before .before .asked .given .1) (c .before .before .before .before .before .before .pre)
+tell-gas-requires c κs = let s = c .before .before .before .before .before .before in (subst (λ (a : Asked). Ready a (s .args .sheet .now)) (c .before .before .asked .given .1) (s .pre .0), s .pre .1)
 
 enum-known-asked-2 : tie.Need-enum-known-asked-2
 enum-known-asked-2 c = search needs

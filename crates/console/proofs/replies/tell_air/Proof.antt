@@ -6,8 +6,8 @@ use Rattle.console.proofs.replies.tell_air.Tie as tie
 enum-told : tie.Need-enum-told
 enum-told c = search needs
 
-heat-requires : tie.Need-heat-requires
-heat-requires c κs = search needs
+heat-lent-requires : tie.Need-heat-lent-requires
+heat-lent-requires c κs = search needs
 
 put-reading-requires : tie.Need-put-reading-requires
 put-reading-requires c κs = search needs
@@ -15,8 +15,8 @@ put-reading-requires c κs = search needs
 enum-told-2 : tie.Need-enum-told-2
 enum-told-2 c = search needs
 
-psi-requires : tie.Need-psi-requires
-psi-requires c κs = search needs
+psi-lent-requires : tie.Need-psi-lent-requires
+psi-lent-requires c κs = search needs
 
 put-reading-requires-2 : tie.Need-put-reading-requires-2
 put-reading-requires-2 c κs = search needs
@@ -24,8 +24,8 @@ put-reading-requires-2 c κs = search needs
 enum-told-3 : tie.Need-enum-told-3
 enum-told-3 c = search needs
 
-cp-requires : tie.Need-cp-requires
-cp-requires c κs = search needs
+cp-lent-requires : tie.Need-cp-lent-requires
+cp-lent-requires c κs = search needs
 
 put-reading-requires-3 : tie.Need-put-reading-requires-3
 put-reading-requires-3 c κs = search needs
@@ -40,19 +40,19 @@ same-length : tie.Need-same-length
 same-length c = search needs
 
 returns : tie.Need-returns
-returns c = rw (c .before .before .before .before .before .enum-told .given .1) (rw (back (c .before .before .before .before .before .before .before .before .fits .number)) at (rw (c .before .before .before .before .heat .ensures) at (c .before .before .put-reading .ensures)))
+returns c = rw (c .before .before .before .before .before .enum-told .given .1) (rw (back (c .before .before .before .before .before .before .before .before .fits .number)) at (rw (c .before .before .before .before .heat-lent .ensures) at (c .before .before .put-reading .ensures)))
 
 same-length-2 : tie.Need-same-length-2
 same-length-2 c = search needs
 
 returns-2 : tie.Need-returns-2
-returns-2 c = rw (c .before .before .before .before .before .enum-told2 .given .1) (rw (back (c .before .before .before .before .before .before .before .before .fits .number)) at (rw (c .before .before .before .before .psi .ensures) at (c .before .before .put-reading2 .ensures)))
+returns-2 c = rw (c .before .before .before .before .before .enum-told2 .given .1) (rw (back (c .before .before .before .before .before .before .before .before .fits .number)) at (rw (c .before .before .before .before .psi-lent .ensures) at (c .before .before .put-reading2 .ensures)))
 
 same-length-3 : tie.Need-same-length-3
 same-length-3 c = search needs
 
 returns-3 : tie.Need-returns-3
-returns-3 c = rw (c .before .before .before .before .before .enum-told3 .given .1) (rw (back (c .before .before .before .before .before .before .before .before .fits .number)) at (rw (c .before .before .before .before .cp .ensures) at (c .before .before .put-reading3 .ensures)))
+returns-3 c = rw (c .before .before .before .before .before .enum-told3 .given .1) (rw (back (c .before .before .before .before .before .before .before .before .fits .number)) at (rw (c .before .before .before .before .cp-lent .ensures) at (c .before .before .put-reading3 .ensures)))
 
 same-length-4 : tie.Need-same-length-4
 same-length-4 c = search needs
@@ -65,13 +65,13 @@ tell-air-spec =
     tie.close
     (tie.spec
     enum-told
-    heat-requires
+    heat-lent-requires
     put-reading-requires
     enum-told-2
-    psi-requires
+    psi-lent-requires
     put-reading-requires-2
     enum-told-3
-    cp-requires
+    cp-lent-requires
     put-reading-requires-3
     enum-told-4
     ask-psi-requires

@@ -6,8 +6,8 @@ use Rattle.console.proofs.replies.tell_gas.Tie as tie
 enum-told : tie.Need-enum-told
 enum-told c = search needs
 
-gas-heat-requires : tie.Need-gas-heat-requires
-gas-heat-requires c κs = search needs
+gas-heat-judged-requires : tie.Need-gas-heat-judged-requires
+gas-heat-judged-requires c κs = search needs
 
 put-heat-requires : tie.Need-put-heat-requires
 put-heat-requires c κs = search needs
@@ -15,8 +15,8 @@ put-heat-requires c κs = search needs
 enum-told-2 : tie.Need-enum-told-2
 enum-told-2 c = search needs
 
-content-requires : tie.Need-content-requires
-content-requires c κs = search needs
+content-judged-requires : tie.Need-content-judged-requires
+content-judged-requires c κs = search needs
 
 put-heat-requires-2 : tie.Need-put-heat-requires-2
 put-heat-requires-2 c κs = search needs
@@ -24,8 +24,8 @@ put-heat-requires-2 c κs = search needs
 enum-told-3 : tie.Need-enum-told-3
 enum-told-3 c = search needs
 
-specific-content-requires : tie.Need-specific-content-requires
-specific-content-requires c κs = search needs
+specific-judged-requires : tie.Need-specific-judged-requires
+specific-judged-requires c κs = search needs
 
 put-specific-requires : tie.Need-put-specific-requires
 put-specific-requires c κs = search needs
@@ -39,26 +39,29 @@ ask-temperature-requires c κs = search needs
 enum-told-5 : tie.Need-enum-told-5
 enum-told-5 c = search needs
 
-ask-station-requires : tie.Need-ask-station-requires
-ask-station-requires c κs = search needs
+station-judged-requires : tie.Need-station-judged-requires
+station-judged-requires c κs = search needs
+
+put-station-requires : tie.Need-put-station-requires
+put-station-requires c κs = search needs
 
 same-length : tie.Need-same-length
 same-length c = search needs
 
 returns : tie.Need-returns
-returns c = rw (c .before .before .before .before .before .enum-told .given .1) (rw (back (c .before .before .before .before .before .before .before .before .before .fits .number)) at (rw (c .before .before .before .before .gas-heat .ensures) at (c .before .before .put-heat .ensures)))
+returns c = rw (c .before .before .before .before .before .enum-told .given .1) (rw (back (c .before .before .before .before .before .before .before .before .before .fits .number)) at (rw (c .before .before .before .before .gas-heat-judged .ensures) at (c .before .before .put-heat .ensures)))
 
 same-length-2 : tie.Need-same-length-2
 same-length-2 c = search needs
 
 returns-2 : tie.Need-returns-2
-returns-2 c = rw (c .before .before .before .before .before .enum-told2 .given .1) (rw (back (c .before .before .before .before .before .before .before .before .before .fits .number)) at (rw (c .before .before .before .before .content .ensures) at (c .before .before .put-heat2 .ensures)))
+returns-2 c = rw (c .before .before .before .before .before .enum-told2 .given .1) (rw (back (c .before .before .before .before .before .before .before .before .before .fits .number)) at (rw (c .before .before .before .before .content-judged .ensures) at (c .before .before .put-heat2 .ensures)))
 
 same-length-3 : tie.Need-same-length-3
 same-length-3 c = search needs
 
 returns-3 : tie.Need-returns-3
-returns-3 c = rw (c .before .before .before .before .before .enum-told3 .given .1) (rw (back (c .before .before .before .before .before .before .before .before .before .fits .number)) at (rw (c .before .before .before .before .specific-content .ensures) at (c .before .before .put-specific .ensures)))
+returns-3 c = rw (c .before .before .before .before .before .enum-told3 .given .1) (rw (back (c .before .before .before .before .before .before .before .before .before .fits .number)) at (rw (c .before .before .before .before .specific-judged .ensures) at (c .before .before .put-specific .ensures)))
 
 same-length-4 : tie.Need-same-length-4
 same-length-4 c = search needs
@@ -70,25 +73,26 @@ same-length-5 : tie.Need-same-length-5
 same-length-5 c = search needs
 
 returns-5 : tie.Need-returns-5
-returns-5 c = rw (c .before .before .before .before .enum-told5 .given .1) (rw (back (c .before .before .before .before .before .before .before .before .fits .number)) at (c .before .before .ask-station .ensures))
+returns-5 c = rw (c .before .before .before .before .before .enum-told5 .given .1) (rw (back (c .before .before .before .before .before .before .before .before .before .fits .number)) at (rw (c .before .before .before .before .station-judged .ensures) at (c .before .before .put-station .ensures)))
 
 pub tell-gas-spec : {M : Type 1} → statement M
 tell-gas-spec =
     tie.close
     (tie.spec
     enum-told
-    gas-heat-requires
+    gas-heat-judged-requires
     put-heat-requires
     enum-told-2
-    content-requires
+    content-judged-requires
     put-heat-requires-2
     enum-told-3
-    specific-content-requires
+    specific-judged-requires
     put-specific-requires
     enum-told-4
     ask-temperature-requires
     enum-told-5
-    ask-station-requires
+    station-judged-requires
+    put-station-requires
     same-length
     returns
     same-length-2

@@ -12,6 +12,12 @@ enum-known-numbers c = search needs
 enum-told : tie.Need-enum-told
 enum-told c = search needs
 
+slice-aggregate-charge-in : tie.Need-slice-aggregate-charge-in
+slice-aggregate-charge-in c = search needs
+
+charge-in-requires : tie.Need-charge-in-requires
+charge-in-requires c κs = search needs
+
 enum-known-verdict : tie.Need-enum-known-verdict
 enum-known-verdict c = search needs
 
@@ -20,11 +26,12 @@ enum-told-2 c = search needs
 
 returns : tie.Need-returns
 returns c =
-    let f0 : SFits w64 (c .before .before .before .numbers .given .0 .0) = search needs in
-    let f1 : SFits w64 (c .before .before .before .numbers .given .0 .1 .0) = search needs in
-    let f2 : SFits w64 (c .before .before .before .numbers .given .0 .1 .1 .0) = search needs in
-    let f3 : SFits w64 (c .before .before .before .numbers .given .0 .1 .1 .1 .0) = search needs in
-    rw (c .before .before .before .numbers .given .1, c .enum-told .given .1, back f0, back f1, back f2, back f3) refl
+    let n = c .before .before .before .before .before .numbers .given in
+    let f0 : SFits w64 (n .0 .0) = search needs in
+    let f1 : SFits w64 (n .0 .1 .0) = search needs in
+    let f2 : SFits w64 (n .0 .1 .1 .0) = search needs in
+    let f3 : SFits w64 (n .0 .1 .1 .1 .0) = search needs in
+    rw (n .1, c .before .before .enum-told .given .1, c .charge-in .ensures, back f0, back f1, back f2, back f3) refl
 
 returns-2 : tie.Need-returns-2
 returns-2 c = rw (c .before .before .before .before .numbers .given .1, c .before .verdict .given .1) refl
@@ -38,6 +45,8 @@ asked-of-spec =
     (tie.spec
     enum-known-numbers
     enum-told
+    slice-aggregate-charge-in
+    charge-in-requires
     enum-known-verdict
     enum-told-2
     returns

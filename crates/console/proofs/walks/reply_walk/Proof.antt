@@ -31,23 +31,20 @@ same-length c = search needs
 returns : tie.Need-returns
 returns c = rw (← walk-misfit (c .before .before .before .before .before .before .before .before .before .before .before .before .args .verdict) (c .before .before .before .before .before .before .before .before .before .before .before .before .args .sheet .now) (fieldsFrom (c .before .before .before .before .before .before .before .before .before .before .before .before .args .line .now) (c .before .before .before .before .before .before .before .before .before .before .before .before .args .from)) (replicate heldNumbers (pos 0)) (c .before .before .before .before .before .before .before .read-numbers .last .1 .1 .0) refl (c .before .before .before .before .before .before .before .read-numbers .result) (c .before .before .before .before .before .held-of .result) (c .before .before .before .before .before .before .before .read-numbers .ensures .0) (c .before .before .before .before .before .held-of .ensures) (c .before .before .before .before .if1 .taken)) (c .before .before .put-misfit .ensures)
 
-array-copy-out-t19 : tie.Need-array-copy-out-t19
-array-copy-out-t19 c = search needs
+slice-aggregate-charge-in : tie.Need-slice-aggregate-charge-in
+slice-aggregate-charge-in c = search needs
+
+charge-in-requires : tie.Need-charge-in-requires
+charge-in-requires c κs = search needs
 
 array-copy-out-t22 : tie.Need-array-copy-out-t22
 array-copy-out-t22 c = search needs
-
-array-copy-out-t25 : tie.Need-array-copy-out-t25
-array-copy-out-t25 c = search needs
-
-array-copy-out-t19-2 : tie.Need-array-copy-out-t19-2
-array-copy-out-t19-2 c = search needs
 
 part-show-start : tie.Need-part-show-start
 part-show-start c = search needs
 
 part-show-end : tie.Need-part-show-end
-part-show-end c = omega (arith, (c .before .before .before .before .before .before .held-of .ensures), held-most (c .before .before .before .before .before .before .before .before .read-numbers .result) heldNumbers)
+part-show-end c = omega (arith, (c .before .before .before .before .before .held-of .ensures), held-most (c .before .before .before .before .before .before .before .read-numbers .result) heldNumbers)
 
 show-requires : tie.Need-show-requires
 show-requires c κs = search needs
@@ -57,11 +54,8 @@ same-length-2 c = search needs
 
 returns-2 : tie.Need-returns-2
 returns-2 c =
-    let f0 : SFits w64 (getD (c .before .before .before .before .before .before .before .before .before .before .before .before .before .read-numbers .last .1 .1 .0) 0 (pos 0)) = search needs in
-    let f1 : SFits w64 (getD (c .before .before .before .before .before .before .before .before .before .before .before .before .before .read-numbers .last .1 .1 .0) 1 (pos 0)) = search needs in
-    let f2 : SFits w64 (getD (c .before .before .before .before .before .before .before .before .before .before .before .before .before .read-numbers .last .1 .1 .0) 2 (pos 0)) = search needs in
-    let f3 : SFits w64 (getD (c .before .before .before .before .before .before .before .before .before .before .before .before .before .read-numbers .last .1 .1 .0) 3 (pos 0)) = search needs in
-    rw (walk-kept (c .before .before .before .before .before .before .before .before .before .before .before .before .before .before .before .before .before .before .args .verdict) (c .before .before .before .before .before .before .before .before .before .before .before .before .before .before .before .before .before .before .args .sheet .now) (fieldsFrom (c .before .before .before .before .before .before .before .before .before .before .before .before .before .before .before .before .before .before .args .line .now) (c .before .before .before .before .before .before .before .before .before .before .before .before .before .before .before .before .before .before .args .from)) (replicate heldNumbers (pos 0)) (c .before .before .before .before .before .before .before .before .before .before .before .before .before .read-numbers .last .1 .1 .0) refl (c .before .before .before .before .before .before .before .before .before .before .before .before .before .read-numbers .result) (c .before .before .before .before .before .before .before .before .before .before .before .held-of .result) (c .before .before .before .before .before .before .before .before .before .before .before .before .before .read-numbers .ensures .0) (c .before .before .before .before .before .before .before .before .before .before .before .before .before .read-numbers .ensures .1) (c .before .before .before .before .before .before .before .before .before .before .before .held-of .ensures) (c .before .before .before .before .before .before .before .before .before .before .if1 .left)) at (rw (back f0, back f1, back f2, back f3) at (c .before .before .show .ensures))
+    let f3 : SFits w64 (getD (c .before .before .before .before .before .before .before .before .before .before .before .before .read-numbers .last .1 .1 .0) 3 (pos 0)) = search needs in
+    rw (walk-kept (c .before .before .before .before .before .before .before .before .before .before .before .before .before .before .before .before .before .args .verdict) (c .before .before .before .before .before .before .before .before .before .before .before .before .before .before .before .before .before .args .sheet .now) (fieldsFrom (c .before .before .before .before .before .before .before .before .before .before .before .before .before .before .before .before .before .args .line .now) (c .before .before .before .before .before .before .before .before .before .before .before .before .before .before .before .before .before .args .from)) (replicate heldNumbers (pos 0)) (c .before .before .before .before .before .before .before .before .before .before .before .before .read-numbers .last .1 .1 .0) refl (c .before .before .before .before .before .before .before .before .before .before .before .before .read-numbers .result) (c .before .before .before .before .before .before .before .before .before .before .held-of .result) (c .before .before .before .before .before .before .before .before .before .before .before .before .read-numbers .ensures .0) (c .before .before .before .before .before .before .before .before .before .before .before .before .read-numbers .ensures .1) (c .before .before .before .before .before .before .before .before .before .before .held-of .ensures) (c .before .before .before .before .before .before .before .before .before .if1 .left)) at (rw (c .before .before .before .before .before .before .before .charge-in .ensures, back f3) at (c .before .before .show .ensures))
 
 pub reply-walk-spec : {M : Type 1} → statement M
 reply-walk-spec =
@@ -73,10 +67,9 @@ reply-walk-spec =
     put-misfit-requires
     same-length
     returns
-    array-copy-out-t19
+    slice-aggregate-charge-in
+    charge-in-requires
     array-copy-out-t22
-    array-copy-out-t25
-    array-copy-out-t19-2
     part-show-start
     part-show-end
     show-requires

@@ -1,7 +1,7 @@
 use Rattle.console.specs.WalksLaws.{walks-accepted, walks-refused}
 use Rattle.console.specs.Answers.{Judged}
 use Rattle.sheet.specs.declared.SheetAnswer.{SheetAnswer}
-use Rattle.console.specs.JudgedLaws.{judged-good}
+use Rattle.console.specs.VerdictLaws.{judged-good}
 use mathlib.Core.Path.{subst}
 use borrow.Author.Needs.{needs}
 use Rattle.console.proofs.walks.walk_held.Statement.{statement}
@@ -10,11 +10,8 @@ use Rattle.console.proofs.walks.walk_held.Tie as tie
 enum-told : tie.Need-enum-told
 enum-told c = search needs
 
-heat-column-requires : tie.Need-heat-column-requires
-heat-column-requires c κs = search needs
-
 walk-judged-requires : tie.Need-walk-judged-requires
-walk-judged-requires c κs = (judged-good (c .before .before .before .before .before .before .before .before .before .args .sheet .now) (subst (λ (v : SheetAnswer). Judged v (c .before .before .before .before .before .before .before .before .before .args .sheet .now)) (c .before .before .before .before .before .enum-told .given .1) (c .before .before .before .before .before .before .before .before .before .pre .0)), (c .before .before .before .before .heat-column .ensures))
+walk-judged-requires c κs = let s = c .before .before .before .before .before .before .before in (judged-good (s .args .sheet .now) (subst (λ (v : SheetAnswer). Judged v (s .args .sheet .now)) (c .before .before .before .enum-told .given .1) (s .pre .0)), s .pre .1)
 
 enum-known-verdict : tie.Need-enum-known-verdict
 enum-known-verdict c = search needs
@@ -30,8 +27,10 @@ same-length-3 c = search needs
 
 returns : tie.Need-returns
 returns c =
-    let ok = judged-good (c .before .before .before .before .before .before .before .before .before .before .before .before .before .before .args .sheet .now) (subst (λ (v : SheetAnswer). Judged v (c .before .before .before .before .before .before .before .before .before .before .before .before .before .before .args .sheet .now)) (c .before .before .before .before .before .before .before .before .before .before .enum-told .given .1) (c .before .before .before .before .before .before .before .before .before .before .before .before .before .before .pre .0)) in
-    rw (c .before .before .before .before .before .before .before .before .before .before .enum-told .given .1) (rw (c .before .before .before .before .before .before .before .before .before .before .before .before .before .before .pre .1, c .before .before .before .before .before .before .before .before .before .before .before .before .before .before .pre .2, c .before .before .before .before .before .before .before .before .before .before .before .before .before .before .pre .3, walks-accepted (c .before .before .before .before .before .before .before .before .before .before .before .before .before .before .args .charge) ((c .before .before .before .before .before .before .before .before .before .before .before .before .before .before .args .t) .0) (c .before .before .before .before .before .before .before .before .before .before .before .before .before .before .args .steps .now) ok) at (c .before .before .before .before .walk-judged .ensures))
+    let s = c .before .before .before .before .before .before .before .before .before .before .before .before in
+    let e = c .before .before .before .before .before .before .before .before .enum-told .given .1 in
+    let ok = judged-good (s .args .sheet .now) (subst (λ (v : SheetAnswer). Judged v (s .args .sheet .now)) e (s .pre .0)) in
+    rw e (rw (s .pre .2, s .pre .3, s .pre .4, walks-accepted (s .args .charge) (s .args .t .0) (s .args .steps .now) ok) at (c .before .before .before .before .walk-judged .ensures))
 
 returns-2 : tie.Need-returns-2
 returns-2 c = rw (c .before .verdict .given .1) (walks-refused _ _)
@@ -41,7 +40,6 @@ walk-held-spec =
     tie.close
     (tie.spec
     enum-told
-    heat-column-requires
     walk-judged-requires
     enum-known-verdict
     same-length

@@ -16,7 +16,7 @@ returns : tie.Need-returns
 returns c = record { free = tt; closed = rw (c .enum-told .given .1) (refl, refl) }
 
 put-answer-requires : tie.Need-put-answer-requires
-put-answer-requires c κs = (c .before .before .before .before .before .before .before .pre .0, free-at answerRoom (c .before .before .before .before .before .before .before .args .out .now) (c .before .before .output .given .1) (c .before .before .before .before .before .before .before .pre .2) (c .before .before .before .before .before .before .before .pre .1))
+put-answer-requires c κs = (c .before .before .before .before .before .before .before .pre .0, free-at answerRoom (c .before .before .before .before .before .before .before .args .out .now) (c .before .before .output .given .1) (c .before .before .before .before .before .before .before .pre .2) (c .before .before .before .before .before .before .before .pre .1), c .before .before .before .before .before .before .before .pre .3)
 
 make-room-requires : tie.Need-make-room-requires
 make-room-requires c κs = search needs
@@ -25,7 +25,7 @@ same-length : tie.Need-same-length
 same-length c = search needs
 
 returns-2 : tie.Need-returns-2
-returns-2 c = leaves-open (c .make-room .result) (c .before .before .before .before .before .before .before .before .before .before .before .before .args .out .now) (c .before .before .before .before .put-answer .last .1 .1 .1 .1 .0) (c .before .before .before .before .before .before .before .output .given .1) (roomed-free (c .before .before .before .before .put-answer .last .1 .1 .1 .1 .0) (At (c .before .before .before .before .put-answer .result)) (c .make-room .result) (c .make-room .ensures))
+returns-2 c = leaves-open (c .make-room .result) (c .before .before .before .before .before .before .before .before .before .before .before .before .args .out .now) (c .before .before .before .before .put-answer .last .1 .1 .1 .1 .1 .1 .1 .0) (c .before .before .before .before .before .before .before .output .given .1) (roomed-free (c .before .before .before .before .put-answer .last .1 .1 .1 .1 .1 .1 .1 .0) (At (c .before .before .before .before .put-answer .result)) (c .make-room .result) (c .make-room .ensures))
 
 pub answer-held-spec : {M : Type 1} → statement M
 answer-held-spec =

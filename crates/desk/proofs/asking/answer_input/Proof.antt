@@ -14,10 +14,10 @@ use Rattle.desk.proofs.asking.answer_input.Statement.{statement}
 use Rattle.desk.proofs.asking.answer_input.Tie as tie
 
 abbrev Inv-loop : tie.InvT-loop
-Inv-loop verdict sheet piece₀ line₀ out₀ turn₀ turns₀ t11 piece line out turn turns = (length line ≡ length line₀) × (length out ≡ length out₀) × (length piece ≡ length piece₀) × Free (turn .output) out
+Inv-loop verdict sheet air psis cps piece₀ line₀ out₀ turn₀ turns₀ t11 piece line out turn turns = (length line ≡ length line₀) × (length out ≡ length out₀) × (length piece ≡ length piece₀) × Free (turn .output) out
 
 abbrev μ-loop : tie.MeasureT-loop
-μ-loop verdict sheet piece₀ line₀ out₀ turn₀ turns₀ t11 piece line out turn turns = turns
+μ-loop verdict sheet air psis cps piece₀ line₀ out₀ turn₀ turns₀ t11 piece line out turn turns = turns
 
 loop-holds : tie.Need-loop-holds Inv-loop μ-loop
 loop-holds c = search needs

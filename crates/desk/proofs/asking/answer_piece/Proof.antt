@@ -11,10 +11,10 @@ use Rattle.desk.proofs.asking.answer_piece.Statement.{statement}
 use Rattle.desk.proofs.asking.answer_piece.Tie as tie
 
 abbrev Inv-loop : tie.InvT-loop
-Inv-loop piece verdict sheet line₀ out₀ held₀ output₀ from₀ line out held output from = (length line ≡ length line₀) × (length out ≡ length out₀) × Leaves output₀ out₀ output out
+Inv-loop piece verdict sheet air psis cps line₀ out₀ held₀ output₀ from₀ line out held output from = (length line ≡ length line₀) × (length out ≡ length out₀) × Leaves output₀ out₀ output out
 
 abbrev μ-loop : tie.MeasureT-loop
-μ-loop piece verdict sheet line₀ out₀ held₀ output₀ from₀ line out held output from = length piece - from
+μ-loop piece verdict sheet air psis cps line₀ out₀ held₀ output₀ from₀ line out held output from = length piece - from
 
 loop-holds : tie.Need-loop-holds Inv-loop μ-loop
 loop-holds c = (refl, refl, leaves-same (c .before .before .before .before .args .turn .output) (c .before .before .before .before .args .out .now) (c .before .before .before .before .pre .2))

@@ -12,17 +12,11 @@ use Rattle.desk.specs.Limits.{keptLines}
 use Rattle.desk.proofs.questions.put_page.Statement.{statement}
 use Rattle.desk.proofs.questions.put_page.Tie as tie
 
-shared-slice-copy-out-t11 : tie.Need-shared-slice-copy-out-t11
-shared-slice-copy-out-t11 c = search needs
+charge-in-requires : tie.Need-charge-in-requires
+charge-in-requires c κs = search needs
 
-shared-slice-copy-out-t13 : tie.Need-shared-slice-copy-out-t13
-shared-slice-copy-out-t13 c = search needs
-
-shared-slice-copy-out-t15 : tie.Need-shared-slice-copy-out-t15
-shared-slice-copy-out-t15 c = search needs
-
-shared-slice-copy-out-t11-2 : tie.Need-shared-slice-copy-out-t11-2
-shared-slice-copy-out-t11-2 c = search needs
+shared-slice-copy-out-t12 : tie.Need-shared-slice-copy-out-t12
+shared-slice-copy-out-t12 c = search needs
 
 kept-requires : tie.Need-kept-requires
 kept-requires c κs = search needs
@@ -47,21 +41,17 @@ same-length c = search needs
 
 returns : tie.Need-returns
 returns c =
-    let f0 : SFits w64 (getD (c .before .before .before .before .before .before .before .before .before .before .before .before .args .numbers .now) 0 (pos 0)) = search needs in
-    let f1 : SFits w64 (getD (c .before .before .before .before .before .before .before .before .before .before .before .before .args .numbers .now) 1 (pos 0)) = search needs in
-    let f2 : SFits w64 (getD (c .before .before .before .before .before .before .before .before .before .before .before .before .args .numbers .now) 2 (pos 0)) = search needs in
-    let f3 : SFits w64 (getD (c .before .before .before .before .before .before .before .before .before .before .before .before .args .numbers .now) 3 (pos 0)) = search needs in
-    let e : stepNumbers * c .before .before .before .before .before .kept .result - stepNumbers ≡ stepNumbers * min (c .before .before .before .before .before .before .before .before .before .before .before .before .args .lines) keptLines - 4 = omega (arith, c .before .before .before .before .before .kept .ensures .1) in
-    rw (back f0, back f1, back f2, back f3, e) at (c .before .before .print-judged .ensures)
+    let s = c .before .before .before .before .before .before .before .before .before .before in
+    let f : SFits w64 (getD (s .args .numbers .now) 3 (pos 0)) = search needs in
+    let e : stepNumbers * c .before .before .before .before .before .kept .result - stepNumbers ≡ stepNumbers * min (s .args .lines) keptLines - 4 = omega (arith, c .before .before .before .before .before .kept .ensures .1) in
+    rw (c .before .before .before .before .before .before .before .charge-in .ensures, back f, e) at (c .before .before .print-judged .ensures)
 
 pub put-page-spec : {M : Type 1} → statement M
 put-page-spec =
     tie.close
     (tie.spec
-    shared-slice-copy-out-t11
-    shared-slice-copy-out-t13
-    shared-slice-copy-out-t15
-    shared-slice-copy-out-t11-2
+    charge-in-requires
+    shared-slice-copy-out-t12
     kept-requires
     mul-end
     sub-print-judged

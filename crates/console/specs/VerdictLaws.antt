@@ -1,11 +1,11 @@
--- A sheet that was judged once answers as one that every call judges: past its refusals the orders of the calls on a gas go on, and a refusal of the sheet is theirs.
+-- A verdict that was given once: a sheet that was found good is accepted, and a refusal of the sheet is that of every call on it, so that the answers are those of calls
+-- that judge the list themselves.
 -- Assumes nothing.
-use Prim.Native.Nat.{ℕ, _≤_, _/_}
+use Prim.Native.Nat.{ℕ, _/_}
 use mathlib.Core.Path.{_≡_, refl, sym, _∙_, ap}
 use mathlib.Core.Bool.{cond}
 use mathlib.Core.List.{List, [], _∷_, _++_}
 use native.Mathlib.Omega.{arith}
-use borrow.Author.Tests.{le-ltb}
 use lib.Dec.{ltb}
 use lib.IntN.{ℤ}
 use lib.ListN.{length, drop}
@@ -16,36 +16,27 @@ use Rattle.fields.specs.Fields.{fieldsOf, holdsReturn, fourOf, valuesOf, countA
 use Rattle.fields.specs.declared.Four.{Four}
 use Rattle.fields.specs.declared.Four.the-variants.{Are, Not}
 use Rattle.refusal.specs.declared.Refusal.{Refusal}
-use Rattle.refusal.specs.Refusals.{Told, Line, _when_, first}
+use Rattle.refusal.specs.Refusals.{Line, _when_, first}
 use Rattle.sheet.specs.Sheet.{Accepted}
 use Rattle.sheet.specs.Answers.{paper, judgeTold, sheetLines}
-use Rattle.sheet.specs.AnswersLaws.{past-sheet, stopped-by-sheet, accepted-of-told}
+use Rattle.sheet.specs.AnswersLaws.{stopped-by-sheet, accepted-of-told}
 use Rattle.sheet.specs.declared.SheetAnswer.{SheetAnswer}
 use Rattle.sheet.specs.declared.SheetAnswer.the-variants.{Good, Refused}
 use Rattle.gas.specs.declared.Charge.{Charge}
-use Rattle.gas.specs.declared.Gas.{Gas}
-use Rattle.gas.specs.Burning.{Weights, document01, gasOf}
+use Rattle.gas.specs.Burning.{document01, gasOf, chargeIn}
 use Rattle.gas.specs.Heat.{gasHeat, contentAbove15, specificContent}
 use Rattle.gas.specs.Answers.{chargeLines, temperatureLines, heatOrder, searchOrder}
 use Rattle.air.specs.Inverse.{unreached, found, looks}
-use Rattle.marking.specs.Figures.{stationSpecific, stationMass}
+use Rattle.marking.specs.Figures.{numbersOf}
 use Rattle.walk.specs.Walk.{run, stepsOf, startLines, startState, walked}
 use Rattle.console.specs.declared.requests.Request.{Request}
 use Rattle.console.specs.declared.requests.Request.the-variants.{OfAir, Burn, OfGas, Walk, Mark, Unknown}
 use Rattle.console.specs.declared.requests.Quantity.{Quantity}
 use Rattle.console.specs.declared.requests.Quantity.the-variants.{Heat, Content, Specific, Temperature, Station}
 use Rattle.console.specs.Requests.{requestOf, askedOf, returnText}
-use Rattle.wording.specs.Texts.{refusalText, toldText, foundText, valueText, wholeText, figuresText}
+use Rattle.wording.specs.Texts.{refusalText, toldText, foundText, valueText, wholeText, numbersText}
 use Rattle.console.specs.Answers.{gasText, gasReply, replyText, answerFields, lineText, answerOf, judgedAfter, Judged, ofList, ofText, Ready}
 use Rattle.console.specs.Walks.{walkTold, walkText, startOf, walkOf, printedWalk}
-
--- past an accepted sheet: 4, 5 and 6 of a heat, and 4 and 5 of a search with eleven places
-module _ {s : List ℕ} (accepted : Accepted s) (w : Weights) (ch : Charge) where
-  pub past-heat : (mk : ℤ) {t : Told Gas} → t ≡ first (chargeLines w ch ++ temperatureLines mk) (gasOf ch) → t ≡ first (heatOrder w ch mk s) (gasOf ch)
-  past-heat mk e = e ∙ sym (past-sheet (chargeLines w ch ++ temperatureLines mk) (gasOf ch) accepted)
-
-  pub past-search : (places : ℕ) {t : Told Gas} → lookPlaces ≤ places → t ≡ first (chargeLines w ch) (gasOf ch) → t ≡ first (searchOrder w ch s places) (gasOf ch)
-  past-search places h e = e ∙ sym (past-sheet (10 when ltb places lookPlaces ∷ chargeLines w ch) (gasOf ch) accepted ∙ rw (le-ltb places lookPlaces h) refl)
 
 -- a sheet that was found good is accepted, whichever way
 pub judged-good : (s : List ℕ) → Judged Good s → Accepted s
@@ -78,7 +69,7 @@ module _ (s : List ℕ) (r : Refusal) (e : paper (Refused r) ≡ judgeTold s) wh
     gas-refused Temperature =
         let v = gasHeat document01 s (gasOf ch) in
         refusal-is (foundText (looks v n)) ((10 when ltb lookPlaces lookPlaces ∷ chargeLines document01 ch) ++ unreached v n) (found v n)
-    gas-refused Station = refusal-is figuresText (chargeLines document01 ch ++ temperatureLines n) (record { mk = n; specific = stationSpecific ch n s; mass = stationMass ch })
+    gas-refused Station = refusal-is numbersText (chargeLines document01 ch ++ temperatureLines n) (numbersOf s n (gasOf ch))
 
     pub walk-refused : (numbers : List ℤ) → walkTold (Refused r) s ch n numbers ≡ walkTold Good s ch n numbers
     unfolding walked
@@ -86,11 +77,11 @@ module _ (s : List ℕ) (r : Refusal) (e : paper (Refused r) ≡ judgeTold s) wh
         sym (stopped-by-sheet s r (startLines document01 ch n (length numbers) mostSteps mostSteps mostLooks) (run document01 s (startState ch n) (stepsOf (length numbers / stepNumbers) numbers)) e)
 
   asked-refused : (q : Quantity) (numbers : Four) → gasReply q s (askedOf numbers (Refused r)) ≡ gasReply q s (askedOf numbers Good)
-  asked-refused q (Are a c h n) = gas-refused (record { air = a; carbon = c; hydrogen = h }) n q
+  asked-refused q (Are a c h n) = gas-refused (chargeIn (a ∷ c ∷ h ∷ [])) n q
   asked-refused q Not = refl
 
   walk-of-refused : (numbers : Four) (zs : List ℤ) → walkOf (Refused r) s numbers zs ≡ walkOf Good s numbers zs
-  walk-of-refused (Are a c h n) zs = ap walkText (walk-refused (record { air = a; carbon = c; hydrogen = h }) n zs)
+  walk-of-refused (Are a c h n) zs = ap walkText (walk-refused (chargeIn (a ∷ c ∷ h ∷ [])) n zs)
   walk-of-refused Not zs = refl
 
   reply-refused : (q : Request) (fs : List (List ℕ)) → replyText (Refused r) s q fs ≡ replyText Good s q fs
