@@ -1,4 +1,1 @@
-pub mod Limits
-pub mod Questions
-pub mod QuestionsLaws
 pub mod Sheets

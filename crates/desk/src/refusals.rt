@@ -8,7 +8,7 @@ ghost use Prim.Native.Nat.{_≤_};
 ghost use mathlib.Core.Path.{_≡_};
 ghost use lib.ListN.{length};
 ghost use Rattle.walk.specs.Limits.{stepNumbers};
-ghost use Rattle.desk.specs.Limits.{keptNumbers};
+ghost use Rattle.forms.specs.Limits.{keptNumbers};
 
 // Says what the walk of the numbers before `end` was refused for, if it was.
 pub(crate) fn say(numbers: &[i64], end: usize, verdict: SheetAnswer, sheet: &[u32])

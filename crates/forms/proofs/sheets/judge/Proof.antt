@@ -1,7 +1,12 @@
 use mathlib.Core.Path.{refl}
+use native.Mathlib.Omega.{arith}
+use lib.ListN.{length-take}
 use borrow.Author.Needs.{needs}
-use Rattle.desk.proofs.sheets.judge.Statement.{statement}
-use Rattle.desk.proofs.sheets.judge.Tie as tie
+use Rattle.forms.proofs.sheets.judge.Statement.{statement}
+use Rattle.forms.proofs.sheets.judge.Tie as tie
+
+slice-aggregate-read-sheet : tie.Need-slice-aggregate-read-sheet
+slice-aggregate-read-sheet c = simp length-take (omega arith)
 
 read-sheet-requires : tie.Need-read-sheet-requires
 read-sheet-requires c κs = search needs
@@ -31,6 +36,7 @@ pub judge-spec : {M : Type 1} → statement M
 judge-spec =
     tie.close
     (tie.spec
+    slice-aggregate-read-sheet
     read-sheet-requires
     enum-told
     judge-sheet-requires

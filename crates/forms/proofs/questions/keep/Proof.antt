@@ -1,8 +1,8 @@
 use Rattle.fields.specs.FieldsLaws.{set-past}
 use mathlib.Core.Path.{sym}
 use borrow.Author.Needs.{needs}
-use Rattle.desk.proofs.questions.keep.Statement.{statement}
-use Rattle.desk.proofs.questions.keep.Tie as tie
+use Rattle.forms.proofs.questions.keep.Statement.{statement}
+use Rattle.forms.proofs.questions.keep.Tie as tie
 
 mul-z : tie.Need-mul-z
 mul-z c = search needs

@@ -1,9 +1,9 @@
 use Rattle.signed.specs.Zed.{back}
-use Rattle.desk.specs.QuestionsLaws.{line-kept, line-left}
+use Rattle.forms.specs.QuestionsLaws.{line-kept, line-left}
 use native.Mathlib.Omega.{arith}
 use borrow.Author.Needs.{needs}
-use Rattle.desk.proofs.questions.keep_line.Statement.{statement}
-use Rattle.desk.proofs.questions.keep_line.Tie as tie
+use Rattle.forms.proofs.questions.keep_line.Statement.{statement}
+use Rattle.forms.proofs.questions.keep_line.Tie as tie
 
 mul-at : tie.Need-mul-at
 mul-at c = search needs

@@ -9,3 +9,7 @@ keptLines = mostSteps + 2
 -- each has as many numbers as a step
 abbrev pub keptNumbers : ℕ
 keptNumbers = stepNumbers * keptLines
+
+-- lines are counted as far as 64 bits go
+abbrev pub mostCounted : ℕ
+mostCounted = 18446744073709551615

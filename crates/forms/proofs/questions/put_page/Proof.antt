@@ -8,9 +8,9 @@ use lib.IntN.{pos}
 use lib.ListN.{getD}
 use borrow.Author.Needs.{needs}
 use Rattle.walk.specs.Limits.{stepNumbers}
-use Rattle.desk.specs.Limits.{keptLines}
-use Rattle.desk.proofs.questions.put_page.Statement.{statement}
-use Rattle.desk.proofs.questions.put_page.Tie as tie
+use Rattle.forms.specs.Limits.{keptLines}
+use Rattle.forms.proofs.questions.put_page.Statement.{statement}
+use Rattle.forms.proofs.questions.put_page.Tie as tie
 
 shared-slice-copy-out-t11 : tie.Need-shared-slice-copy-out-t11
 shared-slice-copy-out-t11 c = search needs
