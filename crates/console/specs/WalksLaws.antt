@@ -187,7 +187,7 @@ module _ (d : ℤ) where
   kept-at (x ∷ xs) l at (suc i) h k =
       let e : at + suc i ≡ suc at + i = omega arith in rw e (kept-at xs (set l at x) (suc at) i (omega arith) (omega (arith, length-set l at x)))
 
-  kept-first : (xs l : List ℤ) (i : ℕ) → i < length xs → i < length l → getD (sets l 0 xs) i d ≡ getD xs i d
+  pub kept-first : (xs l : List ℤ) (i : ℕ) → i < length xs → i < length l → getD (sets l 0 xs) i d ≡ getD xs i d
   kept-first xs l i h k = let e : 0 + i ≡ i = omega arith in rw e at (kept-at xs l 0 i h (omega arith))
 
 first-same : {A : Type 0} (ls ms ns : List Condition) (a b : A) → first ms a ≡ first ns b → first (ls ++ ms) a ≡ first (ls ++ ns) b
@@ -208,33 +208,35 @@ module _ (lines : List Condition) (w : Weights) (s : List ℕ) (ch : Charge) (mk
       first-same lines (startLines w ch mk (length xs) a b c) (startLines w ch mk (length ys) a b c) _ _
       (refused-many (length xs) _ hx ∙ sym (refused-many (length ys) _ hy))
 
-module _ (verdict : SheetAnswer) (s : List ℕ) (fs : List (List ℕ)) (before later : List ℤ) (long : length before ≡ heldNumbers) where
-  steps-alike : (ch : Charge) (mk : ℤ) (k : ℕ) → k ≡ length (valuesOf fs) → startNumbers ≤ k → later ≡ sets before 0 (valuesOf fs)
-      → walkTold verdict s ch mk (take (min k heldNumbers - startNumbers) (drop startNumbers later)) ≡ walkTold verdict s ch mk (drop startNumbers (valuesOf fs))
-  steps-alike ch mk k e h q = go (decLe k heldNumbers)
+-- the steps in a list that has places for more than a start and the longest walk: one that is full holds too many
+module _ (verdict : SheetAnswer) (s : List ℕ) (values before later : List ℤ) (places : ℕ) (long : length before ≡ places) (room : startNumbers + mostNumbers < places) where
+  pub steps-alike : (ch : Charge) (mk : ℤ) (k : ℕ) → k ≡ length values → startNumbers ≤ k → later ≡ sets before 0 values
+      → walkTold verdict s ch mk (take (min k places - startNumbers) (drop startNumbers later)) ≡ walkTold verdict s ch mk (drop startNumbers values)
+  steps-alike ch mk k e h q = go (decLe k places)
     where
-      told-alike : (v : SheetAnswer) → mostNumbers < length (take (min k heldNumbers - startNumbers) (drop startNumbers later)) → mostNumbers < length (drop startNumbers (valuesOf fs))
-          → walkTold v s ch mk (take (min k heldNumbers - startNumbers) (drop startNumbers later)) ≡ walkTold v s ch mk (drop startNumbers (valuesOf fs))
+      told-alike : (v : SheetAnswer) → mostNumbers < length (take (min k places - startNumbers) (drop startNumbers later)) → mostNumbers < length (drop startNumbers values)
+          → walkTold v s ch mk (take (min k places - startNumbers) (drop startNumbers later)) ≡ walkTold v s ch mk (drop startNumbers values)
       told-alike Good x y = many-alike (sheetLines s) document01 s ch mk mostSteps mostSteps mostLooks _ _ x y
       told-alike (SheetRefused r) x y = refl
 
-      go : Dec (k ≤ heldNumbers) → walkTold verdict s ch mk (take (min k heldNumbers - startNumbers) (drop startNumbers later)) ≡ walkTold verdict s ch mk (drop startNumbers (valuesOf fs))
+      go : Dec (k ≤ places) → walkTold verdict s ch mk (take (min k places - startNumbers) (drop startNumbers later)) ≡ walkTold verdict s ch mk (drop startNumbers values)
       go (yes g) =
-          let n : length (drop startNumbers (valuesOf fs)) ≡ min k heldNumbers - startNumbers = omega (arith, length-drop startNumbers (valuesOf fs)) in
+          let n : length (drop startNumbers values) ≡ min k places - startNumbers = omega (arith, length-drop startNumbers values) in
           ap (walkTold verdict s ch mk)
-          (rw (q, sets-eq (valuesOf fs) before 0 (omega arith), drop-append-le startNumbers (valuesOf fs) (drop (0 + length (valuesOf fs)) before) (omega arith))
-          (take-at (drop startNumbers (valuesOf fs)) (drop (0 + length (valuesOf fs)) before) (min k heldNumbers - startNumbers) n))
+          (rw (q, sets-eq values before 0 (omega arith), drop-append-le startNumbers values (drop (0 + length values) before) (omega arith))
+          (take-at (drop startNumbers values) (drop (0 + length values) before) (min k places - startNumbers) n))
       go (no g) =
           told-alike verdict
-          (omega (arith, length-take (min k heldNumbers - startNumbers) (drop startNumbers later), length-drop startNumbers later, ap length q, length-sets before 0 (valuesOf fs)))
-          (omega (arith, length-drop startNumbers (valuesOf fs)))
+          (omega (arith, length-take (min k places - startNumbers) (drop startNumbers later), length-drop startNumbers later, ap length q, length-sets before 0 values))
+          (omega (arith, length-drop startNumbers values))
 
+module _ (verdict : SheetAnswer) (s : List ℕ) (fs : List (List ℕ)) (before later : List ℤ) (long : length before ≡ heldNumbers) where
   pub walk-kept : (numbers : Numbers) (n : ℕ) → numbers ≡ countAll 0 fs → Stored fs before numbers later → n ≡ heldOf numbers heldNumbers → startNumbers ≤ n
       → walkText (walkTold verdict s (chargeIn later) (getD later 3 (pos 0)) (take (n - startNumbers) (drop startNumbers later))) ≡ walkRequest verdict s fs
   walk-kept (Count k) n e st en h =
       let c : k ≡ 0 + length (valuesOf fs) = count-is fs 0 k (sym e) in
       let g : (i : ℕ) → i < startNumbers → getD later i (pos 0) ≡ getD (valuesOf fs) i (pos 0) = λ i l. ap (λ (x : List ℤ). getD x i (pos 0)) st ∙ kept-first (pos 0) (valuesOf fs) before i (omega arith) (omega arith) in
-      rw (← e, le-leb startNumbers k (omega arith), en, g 0 (lit< tt), g 1 (lit< tt), g 2 (lit< tt), g 3 (lit< tt)) (ap walkText (steps-alike _ _ k (omega arith) (omega arith) st))
+      rw (← e, le-leb startNumbers k (omega arith), en, g 0 (lit< tt), g 1 (lit< tt), g 2 (lit< tt), g 3 (lit< tt)) (ap walkText (steps-alike verdict s (valuesOf fs) before later heldNumbers long (lit< tt) _ _ k (omega arith) (omega arith) st))
   walk-kept Bad n e st en h = absurd (omega arith)
 
   pub walk-misfit : (numbers : Numbers) (n : ℕ) → numbers ≡ countAll 0 fs → n ≡ heldOf numbers heldNumbers → n < startNumbers → misfitText ≡ walkRequest verdict s fs

@@ -1,4 +1,2 @@
 pub mod Limits
-pub mod Questions
-pub mod QuestionsLaws
 pub mod Sheets

@@ -8,9 +8,9 @@ mod questions;
 mod refusals;
 mod sheets;
 
-use arguments::Form;
-use arguments::Job;
-use arguments::Named;
+use forms::arguments::Form;
+use forms::arguments::Job;
+use forms::arguments::Named;
 use sheet::SheetAnswer;
 use sheets::Text;
 ghost use Rattle.console.specs.Answers.{Columns, Judged};
@@ -56,7 +56,7 @@ fn over_file(
     let mut bytes = io::large_buffer();
     match sheets::read(i, &mut bytes) {
         Text::Bytes(n) => {
-            let verdict = sheets::judge(&bytes[..n], list);
+            let verdict = forms::sheets::judge(n, &bytes, list);
             sheets::say_return(verdict, &bytes[..n]);
             serve(job, verdict, list, air, psis, cps);
         }

@@ -11,7 +11,7 @@ ghost use Rattle.rows.specs.Rows.{rowsH};
 ghost use Rattle.sheet.specs.Sheet.{Accepted};
 ghost use Rattle.walk.specs.Limits.{stepNumbers};
 ghost use Rattle.console.specs.Answers.{Judged};
-ghost use Rattle.desk.specs.Limits.{keptNumbers};
+ghost use Rattle.forms.specs.Limits.{keptNumbers};
 
 // Says what the walk of the numbers before `end` was refused for, if it was.
 pub(crate) fn say(

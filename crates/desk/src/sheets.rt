@@ -4,9 +4,9 @@ use crate::pages;
 use refusal::Refusal;
 use sheet::SheetAnswer;
 use stream::Got;
+use stream::Output;
 ghost use Prim.Native.Nat.{_≤_};
 ghost use lib.ListN.{length};
-ghost use Rattle.console.specs.Answers.{Verdict};
 ghost use Rattle.desk.specs.Sheets.{Filled};
 
 // How many bytes of a file stand in the buffer, or that it could not be read.
@@ -60,16 +60,6 @@ pub(crate) fn read(i: usize, bytes: &mut [u8]) -> Text
     let text = fill(fd, &name[..n], &mut piece, bytes);
     libc::close(fd);
     text
-}
-
-// The verdict on the text of a sheet: by its form, and then by the step rule.
-pub(crate) fn judge(bytes: &[u8], list: &mut [u32]) -> SheetAnswer
-    ensures { λ r. ⌜ Verdict (now (bytes .entry)) (now (list .entry)) r (now (list .exit)) ⌝ }
-{
-    match sheet::read_sheet(bytes, list) {
-        SheetAnswer::Good => sheet::judge_sheet(list),
-        SheetAnswer::Refused(refusal) => SheetAnswer::Refused(refusal),
-    }
 }
 
 // Says on standard error that the row for which a text is refused has a carriage return.
@@ -134,9 +124,10 @@ pub(crate) fn report(i: usize) {
     let mut bytes = io::large_buffer();
     match read(i, &mut bytes) {
         Text::Bytes(n) => {
-            let verdict = judge(&bytes[..n], &mut list);
-            say_return(verdict, &bytes[..n]);
-            pages::print_verdict(verdict);
+            let mut out = [0u8; 64];
+            let report = forms::sheets::report(n, &bytes, &mut list, &mut out);
+            say_return(report.verdict, &bytes[..n]);
+            stream::flush(&out, Output::At(report.end));
         }
         Text::Unread => (),
     }

@@ -5,5 +5,6 @@ pub mod Decimal
 pub mod DecimalLaws
 pub mod Reading
 pub mod ReadingLaws
+pub mod Bytes
 pub mod Put
 pub mod PutLaws

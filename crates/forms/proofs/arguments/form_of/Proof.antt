@@ -1,0 +1,47 @@
+use Prim.Native.Nat.{_+_}
+use native.Mathlib.Omega.{arith}
+use borrow.Author.Tests.{eq-eqb, ne-eqb}
+use mathlib.Core.Path.{refl}
+use borrow.Author.Needs.{needs}
+use Rattle.forms.proofs.arguments.form_of.Statement.{statement}
+use Rattle.forms.proofs.arguments.form_of.Tie as tie
+use Rattle.forms.proofs.arguments.form_of.Reads as reads
+use Rattle.forms.proofs.arguments.form_of.Lts as lts
+use Rattle.forms.proofs.arguments.plain.Reads as plain-reads
+
+-- src/arguments.rt:118:9
+plain-requires : tie.Need-plain-requires
+plain-requires c κs = search needs
+
+-- src/arguments.rt:118:9
+returns : tie.Need-returns
+returns c = rw (eq-eqb (c .before .before .args .words .option) 0 (c .before .if1 .taken)) (c .plain .ensures)
+
+-- src/arguments.rt:121:12
+sub-if3 : tie.Need-sub-if3
+sub-if3 c = search needs
+
+-- src/arguments.rt:122:57
+add-t9 : tie.Need-add-t9
+add-t9 c = search needs
+
+-- src/arguments.rt:122:13
+plain-requires-2 : tie.Need-plain-requires-2
+plain-requires-2 c κs = search needs
+
+-- src/arguments.rt:122:13
+returns-2 : tie.Need-returns-2
+returns-2 c = rw (ne-eqb (c .before .before .before .before .args .words .option) 0 (c .before .before .before .if1 .left), eq-eqb (c .before .before .before .before .args .count) ((c .before .before .before .before .args .words .option) + 2) (omega (arith, c .before .before .if2 .taken, c .before .if3 .taken))) (c .plain2 .ensures)
+
+-- src/arguments.rt:112:1
+returns-3 : tie.Need-returns-3
+returns-3 c = rw (ne-eqb (c .before .before .before .args .words .option) 0 (c .before .before .if1 .left), ne-eqb (c .before .before .before .args .count) ((c .before .before .before .args .words .option) + 2) (λ e. c .if3 .left (omega (arith, e, c .before .if2 .taken)))) refl
+
+-- src/arguments.rt:112:1
+returns-4 : tie.Need-returns-4
+returns-4 c = rw (ne-eqb (c .before .before .args .words .option) 0 (c .before .if1 .left), ne-eqb (c .before .before .args .count) ((c .before .before .args .words .option) + 2) (λ e. omega (arith, e, c .if2 .left))) refl
+
+pub form-of-spec : {M : Type 1} → statement M
+form-of-spec =
+    tie.close
+    (tie.spec plain-requires returns sub-if3 add-t9 plain-requires-2 returns-2 returns-3 returns-4)

@@ -1,0 +1,37 @@
+use borrow.Author.Tests.{lt-ltb, le-ltb, eq-eqb, ne-eqb}
+use mathlib.Core.Path.{refl}
+use borrow.Author.Needs.{needs}
+use Rattle.forms.proofs.arguments.plain.Statement.{statement}
+use Rattle.forms.proofs.arguments.plain.Tie as tie
+use Rattle.forms.proofs.arguments.plain.Reads as reads
+use Rattle.forms.proofs.arguments.plain.Lts as lts
+use Rattle.forms.proofs.arguments.alone.Reads as alone-reads
+use Rattle.forms.proofs.arguments.with_file.Reads as with-file-reads
+
+-- src/arguments.rt:133:9
+returns : tie.Need-returns
+returns c = rw (lt-ltb (c .before .args .count) 2 (c .if1 .taken)) refl
+
+-- src/arguments.rt:136:9
+alone-requires : tie.Need-alone-requires
+alone-requires c κs = search needs
+
+-- src/arguments.rt:136:9
+returns-2 : tie.Need-returns-2
+returns-2 c = rw (le-ltb (c .before .before .before .args .count) 2 (c .before .before .if1 .left), eq-eqb (c .before .before .before .args .count) 2 (c .before .if2 .taken)) (c .alone .ensures)
+
+-- src/arguments.rt:139:9
+with-file-requires : tie.Need-with-file-requires
+with-file-requires c κs = search needs
+
+-- src/arguments.rt:139:9
+returns-3 : tie.Need-returns-3
+returns-3 c = rw (le-ltb (c .before .before .before .before .args .count) 2 (c .before .before .before .if1 .left), ne-eqb (c .before .before .before .before .args .count) 2 (c .before .before .if2 .left), eq-eqb (c .before .before .before .before .args .count) 3 (c .before .if3 .taken)) (c .with-file .ensures)
+
+-- src/arguments.rt:129:1
+returns-4 : tie.Need-returns-4
+returns-4 c = rw (le-ltb (c .before .before .before .args .count) 2 (c .before .before .if1 .left), ne-eqb (c .before .before .before .args .count) 2 (c .before .if2 .left), ne-eqb (c .before .before .before .args .count) 3 (c .if3 .left)) refl
+
+pub plain-spec : {M : Type 1} → statement M
+plain-spec =
+    tie.close (tie.spec returns alone-requires returns-2 with-file-requires returns-3 returns-4)

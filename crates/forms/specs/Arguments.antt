@@ -1,0 +1,107 @@
+-- Which form of `keys` the arguments are (docs/PROGRAM.md): keys, keys walk [FILE], keys ask, keys sheet FILE, keys --help, -h and --version; at the end of the first
+-- three `--sheet FILE` may stand.
+use Prim.Native.Nat.{ℕ, suc, _+_}
+use mathlib.Core.Bool.{Bool, cond}
+use mathlib.Core.List.{List, [], _∷_}
+use lib.Dec.{eqb, ltb}
+use lib.ListN.{length}
+use Rattle.text.specs.Bytes.{bytesOf}
+use Rattle.console.specs.Requests.{sameText}
+use Rattle.forms.specs.declared.arguments.Word.{Word}
+use Rattle.forms.specs.declared.arguments.Word.the-variants.{Ask, Walk, Sheet, Option, Help, Version, Other}
+use Rattle.forms.specs.declared.arguments.Words.{Words}
+use Rattle.forms.specs.declared.arguments.Named.{Named}
+use Rattle.forms.specs.declared.arguments.Named.the-variants.{Nothing, Argument}
+use Rattle.forms.specs.declared.arguments.Job.{Job}
+use Rattle.forms.specs.declared.arguments.Job.the-variants.{Example, Walk as WalkOf, Ask as AskOf}
+use Rattle.forms.specs.declared.arguments.Form.{Form}
+use Rattle.forms.specs.declared.arguments.Form.the-variants.{Over, Sheet as SheetOf, Help as HelpOf, Version as VersionOf, Misplaced, Wrong}
+
+-- what a word is
+unfoldable pub namedOf : Word → List ℕ → List ℕ → Word → Word
+namedOf other w name word = cond (sameText w name) word other
+
+unfoldable pub aboutOf : List ℕ → Word
+aboutOf w = namedOf (namedOf (namedOf Other w (bytesOf "--version") Version) w (bytesOf "-h") Help) w (bytesOf "--help") Help
+
+unfoldable pub wordOf : List ℕ → Word
+wordOf w = namedOf (namedOf (namedOf (namedOf (aboutOf w) w (bytesOf "--sheet") Option) w (bytesOf "sheet") Sheet) w (bytesOf "walk") Walk) w (bytesOf "ask") Ask
+
+-- a form that takes no other sheet
+abbrev pub overNone : Form → Named → Form
+overNone form Nothing = form
+overNone form (Argument i) = Wrong
+
+-- a word alone
+abbrev pub alone : Word → Named → Form
+alone Ask named = Over AskOf named
+alone Walk named = Over (WalkOf Nothing) named
+alone Sheet named = Wrong
+alone Option named = Wrong
+alone Help named = overNone HelpOf named
+alone Version named = overNone VersionOf named
+alone Other named = Wrong
+
+-- a word and a file
+abbrev pub withFile : Word → Named → Form
+withFile Ask named = Wrong
+withFile Walk named = Over (WalkOf (Argument 2)) named
+withFile Sheet named = overNone (SheetOf 2) named
+withFile Option named = Wrong
+withFile Help named = Wrong
+withFile Version named = Wrong
+withFile Other named = Wrong
+
+-- so many words, the program's name among them, before the sheet that is named
+abbrev pub plain : ℕ → Word → Named → Form
+plain count first named =
+    cond (ltb count 2) (Over Example named)
+    (cond (eqb count 2) (alone first named)
+    (cond (eqb count 3) (withFile first named)
+    Wrong))
+
+-- `--sheet` is the last word but one, or stands nowhere
+abbrev pub formAt : ℕ → Words → Form
+formAt count words =
+    cond (eqb (words .option) 0) (plain count (words .first) Nothing)
+    (cond (eqb count (words .option + 2)) (plain (words .option) (words .first) (Argument (words .option + 1)))
+    Misplaced)
+
+-- the first word, and the place of the first `--sheet` from place i on, 0 for none
+abbrev pub firstOf : List (List ℕ) → Word
+firstOf [] = Other
+firstOf (w ∷ ws) = wordOf w
+
+abbrev pub optionAt : ℕ → Word → ℕ
+optionAt i Option = i
+optionAt i Ask = 0
+optionAt i Walk = 0
+optionAt i Sheet = 0
+optionAt i Help = 0
+optionAt i Version = 0
+optionAt i Other = 0
+
+abbrev pub optionFrom : ℕ → List (List ℕ) → ℕ
+optionFrom i [] = 0
+optionFrom i (w ∷ ws) = cond (eqb (optionAt i (wordOf w)) 0) (optionFrom (suc i) ws) (optionAt i (wordOf w))
+
+-- the form of the arguments, the words after the program's name
+abbrev pub formOf : List (List ℕ) → Form
+formOf ws = formAt (suc (length ws)) (record { first = firstOf ws; option = optionFrom 1 ws })
+
+-- ---- the words one after the other
+abbrev pub noWords : Words
+noWords = record { first = Other; option = 0 }
+
+abbrev pub firstWith : ℕ → Word → Word → Word
+firstWith i word before = cond (eqb i 1) word before
+
+abbrev pub optionWith : ℕ → Word → ℕ → ℕ
+optionWith i word before = cond (eqb before 0) (optionAt i word) before
+
+abbrev pub withWord : Words → ℕ → List ℕ → Words
+withWord words i w = record { first = firstWith i (wordOf w) (words .first); option = optionWith i (wordOf w) (words .option) }
+
+abbrev pub seen : Words → ℕ → List (List ℕ) → Words
+seen words i [] = words
+seen words i (w ∷ ws) = seen (withWord words i w) (suc i) ws

@@ -1,0 +1,9 @@
+-- What each form of `keys` prints, over the bytes that were read
+pub mod Arguments
+pub mod ArgumentsLaws
+pub mod Limits
+pub mod Pages
+pub mod Questions
+pub mod QuestionsLaws
+pub mod Sheets
+pub mod SheetsLaws

@@ -1,0 +1,199 @@
+// The arguments (docs/PROGRAM.md): a form, its file, and at the end `--sheet FILE`. They are seen word by word; which form they are is told by how many words there
+// are, which the first is and where the first `--sheet` stands.
+ghost use mathlib.Core.Path.{_≡_};
+ghost use Rattle.forms.specs.Arguments.{namedOf, aboutOf, wordOf, noWords, optionAt, firstWith, optionWith, withWord, formAt, plain as Arguments·plain, alone as Arguments·alone, withFile, overNone};
+
+// What a word of the arguments is.
+pub enum Word {
+    Ask,
+    Walk,
+    Sheet,
+    Option,
+    Help,
+    Version,
+    Other,
+}
+
+// The words seen so far: which the first is, and the place of the first `--sheet`, 0 for none.
+pub struct Words {
+    pub first: Word,
+    pub option: usize,
+}
+
+// A file by the number of the argument that names it, or none.
+pub enum Named {
+    Nothing,
+    Argument(usize),
+}
+
+// What is done over a sheet: the example is printed, a walk is printed from a file or from standard input, requests are answered.
+pub enum Job {
+    Example,
+    Walk(Named),
+    Ask,
+}
+
+// A job over the sheet that is named, a sheet file to judge, how to go on, the version, a `--sheet FILE` that does not stand at the end, or arguments that are no form.
+pub enum Form {
+    Over(Job, Named),
+    Sheet(usize),
+    Help,
+    Version,
+    Misplaced,
+    Wrong,
+}
+
+// The word where the text is this name, else what it was found to be before.
+fn word_if(other: Word, text: &[u8], name: &[u8], word: Word) -> Word
+    ensures { λ r. ⌜ r ≡ namedOf other (now (text .entry)) (now (name .entry)) word ⌝ }
+{
+    if check::same(text, name) { word } else { other }
+}
+
+// What a word about the program is.
+fn about_of(text: &[u8]) -> Word
+    ensures { λ r. ⌜ r ≡ aboutOf (now (text .entry)) ⌝ }
+{
+    let word = word_if(Word::Other, text, b"--version", Word::Version);
+    let word = word_if(word, text, b"-h", Word::Help);
+    word_if(word, text, b"--help", Word::Help)
+}
+
+// What a word is.
+fn word_of(text: &[u8]) -> Word
+    ensures { λ r. ⌜ r ≡ wordOf (now (text .entry)) ⌝ }
+{
+    let word = word_if(about_of(text), text, b"--sheet", Word::Option);
+    let word = word_if(word, text, b"sheet", Word::Sheet);
+    let word = word_if(word, text, b"walk", Word::Walk);
+    word_if(word, text, b"ask", Word::Ask)
+}
+
+// No word seen.
+pub fn none() -> Words
+    ensures { λ r. ⌜ r ≡ noWords ⌝ }
+{
+    Words {
+        first: Word::Other,
+        option: 0,
+    }
+}
+
+// The place of an option, where this word is one.
+fn option_at(i: usize, word: Word) -> usize
+    ensures { λ r. ⌜ r ≡ optionAt i word ⌝ }
+{
+    match word {
+        Word::Option => i,
+        Word::Ask => 0,
+        Word::Walk => 0,
+        Word::Sheet => 0,
+        Word::Help => 0,
+        Word::Version => 0,
+        Word::Other => 0,
+    }
+}
+
+// The first word, once this one is argument i.
+fn first_with(i: usize, word: Word, before: Word) -> Word
+    ensures { λ r. ⌜ r ≡ firstWith i word before ⌝ }
+{
+    if i == 1 { word } else { before }
+}
+
+// The place of the first option, once this word is argument i.
+fn option_with(i: usize, word: Word, before: usize) -> usize
+    ensures { λ r. ⌜ r ≡ optionWith i word before ⌝ }
+{
+    if before == 0 {
+        option_at(i, word)
+    } else {
+        before
+    }
+}
+
+// The words with argument i, the first being argument 1.
+pub fn with_word(words: Words, i: usize, text: &[u8]) -> Words
+    ensures { λ r. ⌜ r ≡ withWord words i (now (text .entry)) ⌝ }
+{
+    let word = word_of(text);
+    let first = words.first;
+    let option = words.option;
+    Words {
+        first: first_with(i, word, first),
+        option: option_with(i, word, option),
+    }
+}
+
+// The form of so many words, the program's name among them.
+pub fn form_of(count: usize, words: Words) -> Form
+    ensures { λ r. ⌜ r ≡ formAt count words ⌝ }
+{
+    let first = words.first;
+    let option = words.option;
+    if option == 0 {
+        return plain(count, first, Named::Nothing);
+    }
+    if option < count {
+        if count - option == 2 {
+            return plain(option, first, Named::Argument(option + 1));
+        }
+    }
+    Form::Misplaced
+}
+
+// The form of so many words, with the sheet that is named after them.
+fn plain(count: usize, first: Word, named: Named) -> Form
+    ensures { λ r. ⌜ r ≡ Arguments·plain count first named ⌝ }
+{
+    if count < 2 {
+        return Form::Over(Job::Example, named);
+    }
+    if count == 2 {
+        return alone(first, named);
+    }
+    if count == 3 {
+        return with_file(first, named);
+    }
+    Form::Wrong
+}
+
+// The form of one word.
+fn alone(word: Word, named: Named) -> Form
+    ensures { λ r. ⌜ r ≡ Arguments·alone word named ⌝ }
+{
+    match word {
+        Word::Ask => Form::Over(Job::Ask, named),
+        Word::Walk => Form::Over(Job::Walk(Named::Nothing), named),
+        Word::Sheet => Form::Wrong,
+        Word::Option => Form::Wrong,
+        Word::Help => over_none(Form::Help, named),
+        Word::Version => over_none(Form::Version, named),
+        Word::Other => Form::Wrong,
+    }
+}
+
+// The form of a word and a file.
+fn with_file(word: Word, named: Named) -> Form
+    ensures { λ r. ⌜ r ≡ withFile word named ⌝ }
+{
+    match word {
+        Word::Ask => Form::Wrong,
+        Word::Walk => Form::Over(Job::Walk(Named::Argument(2)), named),
+        Word::Sheet => over_none(Form::Sheet(2), named),
+        Word::Option => Form::Wrong,
+        Word::Help => Form::Wrong,
+        Word::Version => Form::Wrong,
+        Word::Other => Form::Wrong,
+    }
+}
+
+// A form that takes no other sheet.
+fn over_none(form: Form, named: Named) -> Form
+    ensures { λ r. ⌜ r ≡ overNone form named ⌝ }
+{
+    match named {
+        Named::Nothing => form,
+        Named::Argument(_) => Form::Wrong,
+    }
+}

@@ -1,0 +1,105 @@
+// What is printed whole, and the lines on standard error (specs/Pages.antt).
+use air::Millikelvin;
+use gas::Charge;
+use sheet::SheetAnswer;
+ghost use mathlib.Core.Path.{_≡_};
+ghost use mathlib.Core.List.{_++_};
+ghost use Rattle.rows.specs.Rows.{rowsH};
+ghost use Rattle.text.specs.Bytes.{bytesOf};
+ghost use Rattle.text.specs.Put.{Put};
+ghost use Rattle.console.specs.Answers.{Judged};
+ghost use Rattle.forms.specs.Pages.{usageText, examplePage, rowReturned, lineReturned, expected, lineBad};
+
+// How to go on.
+pub fn put_usage(out: &mut [u8], at: usize) -> usize
+    ensures { λ r. ⌜ Put usageText (now (out .entry)) at r (now (out .exit)) ⌝ }
+{
+    text::put_text(
+        b"keys walk [FILE]   prints the walk of a question, from FILE or standard input\n\
+          keys ask           answers requests, one a line, from standard input\n\
+          keys sheet FILE    judges a sheet file\n\
+          ..   --sheet FILE  with another sheet than the built-in one\n",
+        out,
+        at,
+    )
+}
+
+// That the arguments are no form, and which there are.
+pub fn put_no_form(out: &mut [u8]) -> usize
+    ensures { λ r. ⌜ Put (bytesOf "keys: no such form\n" ++ usageText) (now (out .entry)) 0 r (now (out .exit)) ⌝ }
+{
+    let next = text::put_text(b"keys: no such form\n", out, 0);
+    put_usage(out, next)
+}
+
+// Document 01's walk, A 1, no fuel, from 200,000 mK, and how to go on.
+pub fn put_example(
+    verdict: SheetAnswer,
+    sheet: &[u32],
+    air: &[u32; rows::ROWS],
+    out: &mut [u8],
+) -> usize
+    requires { ⌜ Judged verdict (now sheet) × (now air ≡ rowsH) ⌝ }
+    ensures { λ r. ⌜ Put (examplePage verdict (now (sheet .entry))) (now (out .entry)) 0 r (now (out .exit)) ⌝ }
+{
+    let steps = [0i64, 0, 0, 1_200_000_001, 0, 0, 0, 2_400_000];
+    let start = Charge {
+        air: 1,
+        carbon: 0,
+        hydrogen: 0,
+    };
+    let next = console::inner::print_judged(start, Millikelvin(200_000), &steps, verdict, sheet, air, out, 0);
+    let line = text::put_byte(10, out, next);
+    put_usage(out, line)
+}
+
+// Which row of a sheet's text has a carriage return.
+pub fn put_row_returned(row: u32, out: &mut [u8]) -> usize
+    ensures { λ r. ⌜ Put (rowReturned row) (now (out .entry)) 0 r (now (out .exit)) ⌝ }
+{
+    let word = text::put_text(b"row ", out, 0);
+    let next = text::put_decimal(row as u64, out, word);
+    text::put_text(
+        b" has a carriage return; lines end in a line feed alone\n",
+        out,
+        next,
+    )
+}
+
+// Which line of a question has a carriage return.
+pub fn put_line_returned(line: u64, out: &mut [u8]) -> usize
+    ensures { λ r. ⌜ Put (lineReturned line) (now (out .entry)) 0 r (now (out .exit)) ⌝ }
+{
+    let word = text::put_text(b"line ", out, 0);
+    let next = text::put_decimal(line, out, word);
+    text::put_text(
+        b": a carriage return; lines end in a line feed alone\n",
+        out,
+        next,
+    )
+}
+
+// What the numbers of a line are.
+fn put_expected(line: u64, out: &mut [u8], at: usize) -> usize
+    ensures { λ r. ⌜ Put (expected line) (now (out .entry)) at r (now (out .exit)) ⌝ }
+{
+    if line == 1 {
+        text::put_text(b"A, c, h, mK\n", out, at)
+    } else {
+        text::put_text(b"c, h, calorific value, q\n", out, at)
+    }
+}
+
+// Which line of a question is not what was expected.
+pub fn put_line_bad(line: u64, out: &mut [u8]) -> usize
+    ensures { λ r. ⌜ Put (lineBad line) (now (out .entry)) 0 r (now (out .exit)) ⌝ }
+{
+    let word = text::put_text(b"line ", out, 0);
+    let number = text::put_decimal(line, out, word);
+    let next = text::put_text(
+        b": expected four whole numbers parted by tabs: ",
+        out,
+        number,
+    );
+    put_expected(line, out, next)
+}

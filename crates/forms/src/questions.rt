@@ -1,0 +1,120 @@
+// A question (docs/PROGRAM.md): line by line four numbers, first A, c, h, mK, then c, h, calorific value, q for each step; and the printed walk of it.
+use air::Millikelvin;
+use fields::Four;
+use sheet::SheetAnswer;
+ghost use Prim.Native.Nat.{_+_, _≤_, min};
+ghost use mathlib.Core.Path.{_≡_};
+ghost use lib.ListN.{length, set};
+ghost use Rattle.rows.specs.Rows.{rowsH};
+ghost use Rattle.text.specs.Put.{Put};
+ghost use Rattle.console.specs.Limits.{pageRoom};
+ghost use Rattle.console.specs.Answers.{Judged};
+ghost use Rattle.forms.specs.Limits.{keptNumbers, keptLines};
+ghost use Rattle.forms.specs.Questions.{oneMore, keptLine, withNext, numbersNext, withLine, numbersWith, questionPage};
+
+// The start and the steps of a walk that is one step too long: where the list is full, document 01 refuses the walk with 13.
+const KEPT_LINES: u64 = walk::MOST_STEPS as u64 + 2;
+
+// How many numbers are kept of a question.
+pub const KEPT_NUMBERS: usize = walk::STEP_NUMBERS * (walk::MOST_STEPS + 2);
+
+// A question so far: how many lines were good, or the number of the first that was not four numbers or that had a carriage return.
+pub enum Question {
+    Good(u64),
+    Bad(u64),
+    Returned(u64),
+}
+
+// The count with one more.
+fn one_more(n: u64) -> u64
+    ensures { λ r. ⌜ r ≡ oneMore n ⌝ }
+{
+    if n < u64::MAX { n + 1 } else { n }
+}
+
+// Puts a number at a place of the list, where there is one.
+fn keep(numbers: &mut [i64], at: usize, z: i64)
+    ensures { λ _. ⌜ now (numbers .exit) ≡ set (now (numbers .entry)) at z ⌝ }
+{
+    if at < numbers.len() {
+        numbers[at] = z;
+    }
+}
+
+// Keeps the four numbers of line k, where the list has places for them.
+fn keep_line(numbers: &mut [i64], k: u64, a: i64, b: i64, c: i64, d: i64)
+    ensures { λ _. ⌜ now (numbers .exit) ≡ keptLine k a b c d (now (numbers .entry)) ⌝ }
+{
+    if k < KEPT_LINES {
+        let at = walk::STEP_NUMBERS * (k as usize);
+        keep(numbers, at, a);
+        keep(numbers, at + 1, b);
+        keep(numbers, at + 2, c);
+        keep(numbers, at + 3, d);
+    }
+}
+
+// The question with one line more after k that were good.
+fn take_next(k: u64, line: &[u8], numbers: &mut [i64]) -> Question
+    ensures { λ r. ⌜ r ≡ withNext k (now (line .entry)) ⌝ }
+    ensures { λ _. ⌜ now (numbers .exit) ≡ numbersNext k (now (line .entry)) (now (numbers .entry)) ⌝ }
+{
+    if fields::holds_return(line) {
+        return Question::Returned(one_more(k));
+    }
+    match fields::read_four(line, 0) {
+        Four::Are(a, b, c, d) => {
+            keep_line(numbers, k, a, b, c, d);
+            Question::Good(one_more(k))
+        }
+        Four::Not => Question::Bad(one_more(k)),
+    }
+}
+
+// The question with one line more, whose numbers are kept.
+pub fn take(question: Question, line: &[u8], numbers: &mut [i64]) -> Question
+    ensures { λ r. ⌜ r ≡ withLine question (now (line .entry)) ⌝ }
+    ensures { λ _. ⌜ now (numbers .exit) ≡ numbersWith question (now (line .entry)) (now (numbers .entry)) ⌝ }
+{
+    match question {
+        Question::Good(k) => take_next(k, line, numbers),
+        Question::Bad(n) => Question::Bad(n),
+        Question::Returned(n) => Question::Returned(n),
+    }
+}
+
+// How many of so many lines the list holds.
+pub fn kept(lines: u64) -> usize
+    requires { ⌜ 1 ≤ lines ⌝ }
+    ensures { λ r. ⌜ (1 ≤ r) × (r ≡ min lines keptLines) ⌝ }
+{
+    if lines < KEPT_LINES { lines as usize } else { KEPT_LINES as usize }
+}
+
+// The printed walk of a question of so many lines.
+pub fn put_page(
+    lines: u64,
+    numbers: &[i64],
+    verdict: SheetAnswer,
+    sheet: &[u32],
+    air: &[u32; rows::ROWS],
+    out: &mut [u8],
+    at: usize,
+) -> usize
+    requires { ⌜ Judged verdict (now sheet) × (length (now numbers) ≡ keptNumbers) × (1 ≤ lines) × (at + pageRoom ≤ length (now out)) × (now air ≡ rowsH) ⌝ }
+    ensures { λ r. ⌜ Put (questionPage verdict (now (sheet .entry)) lines (now (numbers .entry))) (now (out .entry)) at r (now (out .exit)) ⌝ }
+{
+    let start = gas::inner::charge_in(numbers);
+    let t = Millikelvin(numbers[3]);
+    let end = walk::STEP_NUMBERS * kept(lines);
+    console::inner::print_judged(
+        start,
+        t,
+        &numbers[walk::STEP_NUMBERS..end],
+        verdict,
+        sheet,
+        air,
+        out,
+        at,
+    )
+}
