@@ -133,13 +133,7 @@ fn take_last(turn: Turn, line: &[u8], numbers: &mut [i64]) -> Question {
 }
 
 // The whole question of an input, its turns counted down.
-fn read_all(
-    fd: i32,
-    name: &[u8],
-    piece: &mut [u8],
-    line: &mut [u8],
-    numbers: &mut [i64],
-) -> Input {
+fn read_all(fd: i32, name: &[u8], piece: &mut [u8], line: &mut [u8], numbers: &mut [i64]) -> Input {
     let mut turn = Turn {
         held: Held::Bytes(0),
         question: Question::Good(0),
@@ -170,7 +164,13 @@ fn page() -> [u8; console::PAGE_ROOM]
 }
 
 // Prints the walk of a question of so many lines.
-fn print_walk(lines: u64, numbers: &[i64], verdict: SheetAnswer, sheet: &[u32], air: &[u32; rows::ROWS])
+fn print_walk(
+    lines: u64,
+    numbers: &[i64],
+    verdict: SheetAnswer,
+    sheet: &[u32],
+    air: &[u32; rows::ROWS],
+)
     requires { ⌜ Judged verdict (now sheet) × (length (now numbers) ≡ keptNumbers) × (1 ≤ lines) × (now air ≡ rowsH) ⌝ }
 {
     let mut out = page();

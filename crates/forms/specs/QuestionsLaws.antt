@@ -90,14 +90,14 @@ lines-kept k n (line ∷ lines) numbers l h e = go (holdsReturn line) (fourOf (f
 
 -- a question has four numbers a line
 lines-long : (k n : ℕ) (lines : List (List ℕ)) → readFrom k lines ≡ Good n → (n ≡ k + length lines) × (length (numbersIn lines) ≡ stepNumbers * length lines)
-lines-long k n [] e = ((let z : k ≡ n = cc in omega arith) , refl)
+lines-long k n [] e = ((let z : k ≡ n = cc in omega arith), refl)
 lines-long k n (line ∷ lines) e = go (holdsReturn line) (fourOf (fieldsOf line)) (λ r. lines-long (suc k) n lines r) e
   where
     go : (t : Bool) (f : Four) → (readFrom (suc k) lines ≡ Good n → (n ≡ suc k + length lines) × (length (numbersIn lines) ≡ stepNumbers * length lines))
         → cond t (Returned (suc k)) (onFour f (readFrom (suc k) lines) (Bad (suc k))) ≡ Good n
         → (n ≡ k + suc (length lines)) × (length (fourNumbers f ++ numbersIn lines) ≡ stepNumbers * suc (length lines))
     go true f later r = absurd (let z : _≡_ {A = ℕ} 0 1 = cc in omega arith)
-    go false (Are a b c d) later r = let p = later r in (omega (arith, p .0) , omega (arith, p .1))
+    go false (Are a b c d) later r = let p = later r in (omega (arith, p .0), omega (arith, p .1))
     go false Not later r = absurd (let z : _≡_ {A = ℕ} 0 1 = cc in omega arith)
 
 -- the page put from the list is the page of the lines' numbers

@@ -9,7 +9,7 @@ use Rattle.sheet.specs.declared.SheetAnswer.the-variants.{Good, Refused}
 use Rattle.console.specs.Answers.{judgedAfter, Verdict}
 
 pub one-verdict : {text before list later : List ℕ} {a b : SheetAnswer} → Verdict text before a list → Verdict text before b later → (a ≡ b) × (list ≡ later)
-one-verdict {list = list} {later = later} {a = a} {b = b} p q = let e = one-read_sheet (p .reading) (q .reading) in (go (p .read) (q .read) (e .0) (e .1) (p .judged) (q .judged) , e .1)
+one-verdict {list = list} {later = later} {a = a} {b = b} p q = let e = one-read_sheet (p .reading) (q .reading) in (go (p .read) (q .read) (e .0) (e .1) (p .judged) (q .judged), e .1)
   where
     same : (x : SheetAnswer) → list ≡ later → judgedAfter x a list → judgedAfter x b later → a ≡ b
     same Good l m n = one-judge_sheet later a b (subst (λ (s : List ℕ). paper a ≡ judgeTold s) l m) n

@@ -48,7 +48,16 @@ pub fn put_example(
         carbon: 0,
         hydrogen: 0,
     };
-    let next = console::inner::print_judged(start, Millikelvin(200_000), &steps, verdict, sheet, air, out, 0);
+    let next = console::inner::print_judged(
+        start,
+        Millikelvin(200_000),
+        &steps,
+        verdict,
+        sheet,
+        air,
+        out,
+        0,
+    );
     let line = text::put_byte(10, out, next);
     put_usage(out, line)
 }

@@ -88,7 +88,11 @@ pub fn kept(lines: u64) -> usize
     requires { ⌜ 1 ≤ lines ⌝ }
     ensures { λ r. ⌜ (1 ≤ r) × (r ≡ min lines keptLines) ⌝ }
 {
-    if lines < KEPT_LINES { lines as usize } else { KEPT_LINES as usize }
+    if lines < KEPT_LINES {
+        lines as usize
+    } else {
+        KEPT_LINES as usize
+    }
 }
 
 // The printed walk of a question of so many lines.

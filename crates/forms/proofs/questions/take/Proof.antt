@@ -32,11 +32,11 @@ returns c = rw (c .before .before .before .before .question .given .1) (c .befor
 
 -- src/questions.rt:74:1
 returns-2 : tie.Need-returns-2
-returns-2 c = (rw (c .before .question2 .given .1) refl , rw (c .before .question2 .given .1) refl)
+returns-2 c = (rw (c .before .question2 .given .1) refl, rw (c .before .question2 .given .1) refl)
 
 -- src/questions.rt:74:1
 returns-3 : tie.Need-returns-3
-returns-3 c = (rw (c .before .question3 .given .1) refl , rw (c .before .question3 .given .1) refl)
+returns-3 c = (rw (c .before .question3 .given .1) refl, rw (c .before .question3 .given .1) refl)
 
 pub take-spec : {M : Type 1} → statement M
 take-spec =

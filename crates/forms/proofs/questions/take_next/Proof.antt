@@ -25,9 +25,9 @@ one-more-requires c κs = search needs
 
 -- src/questions.rt:62:9
 returns : tie.Need-returns
-returns c = 
+returns c =
     let h : holdsReturn (c .before .before .before .before .args .line .now) ≡ true = sym (c .before .before .holds-return .ensures) ∙ c .before .if1 .taken in
-    (rw (h, c .one-more .ensures) refl , rw h refl)
+    (rw (h, c .one-more .ensures) refl, rw h refl)
 
 -- src/questions.rt:64:11
 read-four-requires : tie.Need-read-four-requires
@@ -59,21 +59,21 @@ same-length c = search needs
 
 -- src/questions.rt:57:1
 returns-2 : tie.Need-returns-2
-returns-2 c = 
+returns-2 c =
     let h : holdsReturn (c .before .before .before .before .before .before .before .before .before .before .before .args .line .now) ≡ false = sym (c .before .before .before .before .before .before .before .before .before .holds-return .ensures) ∙ c .before .before .before .before .before .before .before .before .if1 .left in
     let f = sym (ap fourOf (whole-line (c .before .before .before .before .before .before .before .before .before .before .before .args .line .now))) ∙ (sym (c .before .before .before .before .before .before .before .read-four .ensures) ∙ c .before .before .before .before .before .a .given .1) in
     let f0 : SFits w64 (c .before .before .before .before .before .a .given .0 .0) = search needs in
     let f1 : SFits w64 (c .before .before .before .before .before .a .given .0 .1 .0) = search needs in
     let f2 : SFits w64 (c .before .before .before .before .before .a .given .0 .1 .1 .0) = search needs in
     let f3 : SFits w64 (c .before .before .before .before .before .a .given .0 .1 .1 .1 .0) = search needs in
-    (rw (h, f, c .one-more2 .ensures) refl , rw (h, f) (rw (back f0, back f1, back f2, back f3) at (c .before .before .keep-line .ensures)))
+    (rw (h, f, c .one-more2 .ensures) refl, rw (h, f) (rw (back f0, back f1, back f2, back f3) at (c .before .before .keep-line .ensures)))
 
 -- src/questions.rt:57:1
 returns-3 : tie.Need-returns-3
-returns-3 c = 
+returns-3 c =
     let h : holdsReturn (c .before .before .before .before .before .before .before .args .line .now) ≡ false = sym (c .before .before .before .before .before .holds-return .ensures) ∙ c .before .before .before .before .if1 .left in
     let f = sym (ap fourOf (whole-line (c .before .before .before .before .before .before .before .args .line .now))) ∙ (sym (c .before .before .before .read-four .ensures) ∙ c .before .enum-told .given .1) in
-    (rw (h, f, c .one-more3 .ensures) refl , rw (h, f) refl)
+    (rw (h, f, c .one-more3 .ensures) refl, rw (h, f) refl)
 
 pub take-next-spec : {M : Type 1} → statement M
 take-next-spec =
