@@ -125,9 +125,11 @@ pub(crate) fn report(i: usize) {
     match read(i, &mut bytes) {
         Text::Bytes(n) => {
             let mut out = [0u8; 64];
-            let report = forms::sheets::report(n, &bytes, &mut list, &mut out);
-            say_return(report.verdict, &bytes[..n]);
-            stream::flush(&out, Output::At(report.end));
+            let told = forms::sheets::report(n, &bytes, &mut list, &mut out);
+            let verdict = told.verdict;
+            let end = told.end;
+            say_return(verdict, &bytes[..n]);
+            stream::flush(&out, Output::At(end));
         }
         Text::Unread => (),
     }

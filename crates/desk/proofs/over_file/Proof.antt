@@ -1,56 +1,73 @@
 use Rattle.console.specs.Answers.{ofText}
-use Rattle.desk.specs.declared.sheets.Text.{Text}
-use Rattle.desk.specs.Sheets.{Filled}
-use native.Mathlib.Omega.{arith}
-use lib.ListN.{length, length-take}
-use Prim.Native.Nat.{_≤_}
 use mathlib.Core.Path.{subst}
+use Prim.Native.Nat.{_≤_}
+use lib.ListN.{length, length-take}
+use native.Mathlib.Omega.{arith}
+use Rattle.desk.specs.Sheets.{Filled}
+use Rattle.desk.specs.declared.sheets.Text.{Text}
 use borrow.Author.Needs.{needs}
 use Rattle.desk.proofs.over_file.Statement.{statement}
 use Rattle.desk.proofs.over_file.Tie as tie
+use Rattle.desk.proofs.over_file.Reads as reads
+use Rattle.desk.proofs.over_file.Lts as lts
+use Rattle.desk.proofs.serve.Reads as serve-reads
+use Rattle.desk.proofs.sheets.read.Reads as read-reads
+use Rattle.desk.proofs.sheets.say_return.Reads as say-return-reads
+use Rattle.forms.proofs.sheets.judge.Reads as judge-reads
+use Rattle.io.proofs.large_buffer.Reads as large-buffer-reads
 
+-- src/lib.rt:56:21
 large-buffer-requires : tie.Need-large-buffer-requires
 large-buffer-requires c κs = search needs
 
+-- src/lib.rt:57:27
 slice-aggregate-read : tie.Need-slice-aggregate-read
 slice-aggregate-read c = search needs
 
+-- src/lib.rt:57:11
 read-requires : tie.Need-read-requires
 read-requires c κs = search needs
 
+-- src/lib.rt:58:21
 enum-known-n : tie.Need-enum-known-n
 enum-known-n c = search needs
 
-array-share-prefix-bytes : tie.Need-array-share-prefix-bytes
-array-share-prefix-bytes c = let h : c .before .n .given .0 .0 ≤ length (c .before .before .before .before .read .last .1 .0) = subst (λ (x : Text). Filled x (c .before .before .before .before .read .last .1 .0)) (c .before .n .given .1) (c .before .before .before .before .read .ensures) in h
-
+-- src/lib.rt:59:51
 slice-aggregate-judge : tie.Need-slice-aggregate-judge
-slice-aggregate-judge c = let h : c .before .before .n .given .0 .0 ≤ length (c .before .before .before .before .before .read .last .1 .0) = subst (λ (x : Text). Filled x (c .before .before .before .before .before .read .last .1 .0)) (c .before .before .n .given .1) (c .before .before .before .before .before .read .ensures) in simp length-take (omega arith)
+slice-aggregate-judge c = search needs
 
+-- src/lib.rt:59:17
 judge-requires : tie.Need-judge-requires
-judge-requires c κs = search needs
+judge-requires c κs = let h : c .before .before .before .n .given .0 .0 ≤ length (c .before .before .before .before .before .before .read .last .1 .0) = subst (λ (x : Text). Filled x (c .before .before .before .before .before .before .read .last .1 .0)) (c .before .before .before .n .given .1) (c .before .before .before .before .before .before .read .ensures) in h
 
-array-share-prefix-bytes-2 : tie.Need-array-share-prefix-bytes-2
-array-share-prefix-bytes-2 c = let h : c .before .before .before .before .before .before .n .given .0 .0 ≤ length (c .before .before .before .before .before .before .before .before .before .read .last .1 .0) = subst (λ (x : Text). Filled x (c .before .before .before .before .before .before .before .before .before .read .last .1 .0)) (c .before .before .before .before .before .before .n .given .1) (c .before .before .before .before .before .before .before .before .before .read .ensures) in h
+-- src/lib.rt:60:41
+array-share-prefix-bytes : tie.Need-array-share-prefix-bytes
+array-share-prefix-bytes c = let h : c .before .before .before .before .before .before .n .given .0 .0 ≤ length (c .before .before .before .before .before .before .before .before .before .read .last .1 .0) = subst (λ (x : Text). Filled x (c .before .before .before .before .before .before .before .before .before .read .last .1 .0)) (c .before .before .before .before .before .before .n .given .1) (c .before .before .before .before .before .before .before .before .before .read .ensures) in h
 
+-- src/lib.rt:60:41
 slice-aggregate-say-return : tie.Need-slice-aggregate-say-return
 slice-aggregate-say-return c = let h : c .before .before .before .before .before .before .before .n .given .0 .0 ≤ length (c .before .before .before .before .before .before .before .before .before .before .read .last .1 .0) = subst (λ (x : Text). Filled x (c .before .before .before .before .before .before .before .before .before .before .read .last .1 .0)) (c .before .before .before .before .before .before .before .n .given .1) (c .before .before .before .before .before .before .before .before .before .before .read .ensures) in simp length-take (omega arith)
 
+-- src/lib.rt:60:13
 say-return-requires : tie.Need-say-return-requires
 say-return-requires c κs = search needs
 
+-- src/lib.rt:61:13
 serve-requires : tie.Need-serve-requires
 serve-requires c κs = (ofText (c .before .before .before .before .before .judge .ensures), c .before .before .before .before .before .before .before .before .before .before .before .before .before .before .before .before .pre)
 
 enum-told : tie.Need-enum-told
 enum-told c = search needs
 
+-- src/lib.rt:46:1
 same-length : tie.Need-same-length
 same-length c = search needs
 
+-- src/lib.rt:46:1
 returns : tie.Need-returns
 returns c = search needs
 
+-- src/lib.rt:46:1
 returns-2 : tie.Need-returns-2
 returns-2 c = search needs
 
@@ -62,10 +79,9 @@ over-file-spec =
     slice-aggregate-read
     read-requires
     enum-known-n
-    array-share-prefix-bytes
     slice-aggregate-judge
     judge-requires
-    array-share-prefix-bytes-2
+    array-share-prefix-bytes
     slice-aggregate-say-return
     say-return-requires
     serve-requires
