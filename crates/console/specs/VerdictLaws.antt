@@ -2,7 +2,7 @@
 -- that judge the list themselves.
 -- Assumes nothing.
 use Prim.Native.Nat.{ℕ, _/_}
-use mathlib.Core.Path.{_≡_, refl, sym, _∙_, ap}
+use mathlib.Core.Path.{_≡_, refl, sym, ap}
 use mathlib.Core.Bool.{cond}
 use mathlib.Core.List.{List, [], _∷_, _++_}
 use native.Mathlib.Omega.{arith}
@@ -25,7 +25,7 @@ use Rattle.sheet.specs.declared.SheetAnswer.the-variants.{Good, Refused}
 use Rattle.gas.specs.declared.Charge.{Charge}
 use Rattle.gas.specs.Burning.{document01, gasOf, chargeIn}
 use Rattle.gas.specs.Heat.{gasHeat, contentAbove15, specificContent}
-use Rattle.gas.specs.Answers.{chargeLines, temperatureLines, heatOrder, searchOrder}
+use Rattle.gas.specs.Answers.{chargeLines, temperatureLines, heatOrder}
 use Rattle.air.specs.Inverse.{unreached, found, looks}
 use Rattle.marking.specs.Figures.{numbersOf}
 use Rattle.walk.specs.Walk.{run, stepsOf, startLines, startState, walked}

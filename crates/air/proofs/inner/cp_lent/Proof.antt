@@ -2,6 +2,7 @@ use borrow.Author.Needs.{needs}
 use mathlib.Core.List.{List}
 use mathlib.Core.Path.{_≡_, refl, ap, _∙_}
 use Prim.Native.Nat.{ℕ}
+use Rattle.rows.specs.Limits.{firstKelvin, lastKelvin}
 use Rattle.rows.specs.Table.{column, airCp}
 use Rattle.rows.specs.Rows.{rowsCp}
 use Rattle.signed.specs.Zed.{in-plain, tested, tested-plain, tested-nat}
@@ -17,18 +18,18 @@ inside-requires : tie.Need-inside-requires
 inside-requires c κs = search needs
 
 returns : tie.Need-returns
-returns c = rw (tested 200 2000 (c .before .before .fits .kelvin) (in-plain _ _ (c .before .before .fits .kelvin) (c .before .inside .ensures)) (c .if1 .taken)) refl
+returns c = rw (tested firstKelvin lastKelvin (c .before .before .fits .kelvin) (in-plain _ _ (c .before .before .fits .kelvin) (c .before .inside .ensures)) (c .if1 .taken)) refl
 
 to-u64-requires : tie.Need-to-u64-requires
-to-u64-requires c κs = tested-plain 200 2000 (c .before .before .fits .kelvin) (in-plain _ _ (c .before .before .fits .kelvin) (c .before .inside .ensures)) (c .if1 .left)
+to-u64-requires c κs = tested-plain firstKelvin lastKelvin (c .before .before .fits .kelvin) (in-plain _ _ (c .before .before .fits .kelvin) (c .before .inside .ensures)) (c .if1 .left)
 
 figure-requires : tie.Need-figure-requires
-figure-requires c κs = let n = tested-nat 200 2000 (c .before .before .before .fits .kelvin) (in-plain _ _ (c .before .before .before .fits .kelvin) (c .before .before .inside .ensures)) (c .before .if1 .left) (c .to-u64 .ensures) in (n .least, n .most)
+figure-requires c κs = let n = tested-nat firstKelvin lastKelvin (c .before .before .before .fits .kelvin) (in-plain _ _ (c .before .before .before .fits .kelvin) (c .before .before .inside .ensures)) (c .before .if1 .left) (c .to-u64 .ensures) in (n .least, n .most)
 
 returns-2 : tie.Need-returns-2
 returns-2 c =
-    let n = tested-nat 200 2000 (c .before .before .before .before .fits .kelvin) (in-plain _ _ (c .before .before .before .before .fits .kelvin) (c .before .before .before .inside .ensures)) (c .before .before .if1 .left) (c .before .to-u64 .ensures) in
-    rw (tested 200 2000 (c .before .before .before .before .fits .kelvin) (in-plain _ _ (c .before .before .before .before .fits .kelvin) (c .before .before .before .inside .ensures)) (c .before .before .if1 .left)) (ap gives (cp-figure (c .figure .ensures .0) (c .before .before .before .before .pre) (n .number)))
+    let n = tested-nat firstKelvin lastKelvin (c .before .before .before .before .fits .kelvin) (in-plain _ _ (c .before .before .before .before .fits .kelvin) (c .before .before .before .inside .ensures)) (c .before .before .if1 .left) (c .before .to-u64 .ensures) in
+    rw (tested firstKelvin lastKelvin (c .before .before .before .before .fits .kelvin) (in-plain _ _ (c .before .before .before .before .fits .kelvin) (c .before .before .before .inside .ensures)) (c .before .before .if1 .left)) (ap gives (cp-figure (c .figure .ensures .0) (c .before .before .before .before .pre) (n .number)))
 
 pub cp-lent-spec : {M : Type 1} → statement M
 cp-lent-spec = tie.close (tie.spec inside-requires returns to-u64-requires figure-requires returns-2)

@@ -11,7 +11,8 @@ use mir.Syntax.{w64}
 use mir.Val.{SFits, toZ, ofZ}
 use Rattle.signed.specs.Zed.{back, lt-read, apart, zed}
 use Rattle.refusal.specs.declared.Refusal.the-variants.{Plain}
-use Rattle.air.specs.Limits.{lookPlaces}
+use Rattle.rows.specs.Limits.{firstKelvin, lastKelvin}
+use Rattle.air.specs.Limits.{lookPlaces, coldest, hottest}
 use Rattle.air.specs.declared.PsiAnswer.the-variants.{Refused}
 use Rattle.refusal.specs.Refusals.{here, after, none, clear, Clear}
 use Rattle.air.specs.Answers.{psiValue, psiOrder}
@@ -36,11 +37,11 @@ room : (c : tie.Else1) → ltb (length (c .before .before .args .looks .now)) lo
 room c = le-ltb _ lookPlaces (c .if1 .left)
 
 -- the test against psi at 200 K
-at-200 : (c : tie.After-of-u64) {t : Bool} → let s = c .before .before .before .before in ltZ (toZ w64 (ofZ w64 (s .args .target))) (toZ w64 (ofZ w64 (c .of-u64 .result))) ≡ t → ltZ (s .args .target) (psiValue 200000) ≡ t
+at-200 : (c : tie.After-of-u64) {t : Bool} → let s = c .before .before .before .before in ltZ (toZ w64 (ofZ w64 (s .args .target))) (toZ w64 (ofZ w64 (c .of-u64 .result))) ≡ t → ltZ (s .args .target) (psiValue coldest) ≡ t
 at-200 c e =
     let s = c .before .before .before .before in
     let f : SFits w64 (c .of-u64 .result) = search needs in
-    let q = psi-end 200 (omega arith) (s .pre) (c .before .figure .ensures .0) (c .of-u64 .ensures) in
+    let q = psi-end firstKelvin (omega arith) (s .pre) (c .before .figure .ensures .0) (c .of-u64 .ensures) in
     rw q at (lt-read (s .fits .target) f e)
 
 returns-2 : tie.Need-returns-2
@@ -56,11 +57,11 @@ of-u64-requires-2 : tie.Need-of-u64-requires-2
 of-u64-requires-2 c κs = search needs
 
 -- the test against psi at 2,000 K
-at-2000 : (c : tie.After-of-u642) {t : Bool} → let s = c .before .before .before .before .before .before .before in ltZ (toZ w64 (ofZ w64 (c .of-u642 .result))) (toZ w64 (ofZ w64 (s .args .target))) ≡ t → ltZ (psiValue 2000000) (s .args .target) ≡ t
+at-2000 : (c : tie.After-of-u642) {t : Bool} → let s = c .before .before .before .before .before .before .before in ltZ (toZ w64 (ofZ w64 (c .of-u642 .result))) (toZ w64 (ofZ w64 (s .args .target))) ≡ t → ltZ (psiValue hottest) (s .args .target) ≡ t
 at-2000 c e =
     let s = c .before .before .before .before .before .before .before in
     let f : SFits w64 (c .of-u642 .result) = search needs in
-    let q = psi-end 2000 (omega arith) (s .pre) (c .before .figure2 .ensures .0) (c .of-u642 .ensures) in
+    let q = psi-end lastKelvin (omega arith) (s .pre) (c .before .figure2 .ensures .0) (c .of-u642 .ensures) in
     rw q at (lt-read f (s .fits .target) e)
 
 returns-3 : tie.Need-returns-3
@@ -71,10 +72,10 @@ module _ (c : tie.Else3) where
   cleared : let s = c .before .before .before .before .before .before .before .before in Clear (psiOrder (length (s .args .looks .now)) (s .args .target))
   cleared = clear (room (c .before .before .before .before .before .before)) (clear (at-200 (c .before .before .before .before) (c .before .before .before .if2 .left)) (clear (at-2000 (c .before) (c .if3 .left)) none))
 
-  from-200 : psiValue 200000 ≤ℤ c .before .before .before .before .before .before .before .before .args .target
+  from-200 : psiValue coldest ≤ℤ c .before .before .before .before .before .before .before .before .args .target
   from-200 = omega (zed, at-200 (c .before .before .before .before) (c .before .before .before .if2 .left))
 
-  to-2000 : c .before .before .before .before .before .before .before .before .args .target ≤ℤ psiValue 2000000
+  to-2000 : c .before .before .before .before .before .before .before .before .args .target ≤ℤ psiValue hottest
   to-2000 = omega (zed, at-2000 (c .before) (c .if3 .left))
 
 to-u64-requires : tie.Need-to-u64-requires
@@ -85,7 +86,7 @@ psi-reached-requires c κs =
     let s = c .before .before .before .before .before .before .before .before .before .before in
     let d = c .before .before in
     let e = c .before .to-u64 .ensures ∙ back (s .fits .target) in
-    (s .pre, omega arith, omega (zed, e, from-200 d, psi-whole 200 (omega arith)), omega (zed, e, to-2000 d, psi-whole 2000 (omega arith)))
+    (s .pre, omega arith, omega (zed, e, from-200 d, psi-whole firstKelvin (omega arith)), omega (zed, e, to-2000 d, psi-whole lastKelvin (omega arith)))
 
 same-length : tie.Need-same-length
 same-length c = search needs

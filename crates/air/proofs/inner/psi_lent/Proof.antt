@@ -6,6 +6,7 @@ use mir.Val.{SFits}
 use mir.Syntax.{w64}
 use Rattle.rows.specs.Table.{column}
 use Rattle.signed.specs.Zed.{tested, tested-plain, tested-nat}
+use Rattle.air.specs.Limits.{coldest, hottest}
 use Rattle.air.specs.ReadingsLaws.{psi-read, psi-never-falls}
 use Rattle.air.specs.Readings.{airPsiAt, NeverFalls}
 use Rattle.refusal.specs.Refusals.{gives}
@@ -19,22 +20,22 @@ covered-requires : tie.Need-covered-requires
 covered-requires c κs = search needs
 
 returns : tie.Need-returns
-returns c = rw (tested 200000 2000000 (fit (c .before .before)) (c .before .covered .ensures) (c .if1 .taken)) refl
+returns c = rw (tested coldest hottest (fit (c .before .before)) (c .before .covered .ensures) (c .if1 .taken)) refl
 
 to-u64-requires : tie.Need-to-u64-requires
-to-u64-requires c κs = tested-plain 200000 2000000 (fit (c .before .before .before)) (c .before .before .covered .ensures) (c .before .if1 .left)
+to-u64-requires c κs = tested-plain coldest hottest (fit (c .before .before .before)) (c .before .before .covered .ensures) (c .before .if1 .left)
 
 read-requires : tie.Need-read-requires
 read-requires c κs =
     let s = c .before .before .before .before in
-    let n = tested-nat 200000 2000000 (fit s) (c .before .before .before .covered .ensures) (c .before .before .if1 .left) (c .to-u64 .ensures) in
+    let n = tested-nat coldest hottest (fit s) (c .before .before .before .covered .ensures) (c .before .before .if1 .left) (c .to-u64 .ensures) in
     (n .least, n .most, subst⁻¹ (λ (l : List ℕ). NeverFalls (column l)) (s .pre) psi-never-falls)
 
 returns-2 : tie.Need-returns-2
 returns-2 c =
     let s = c .before .before .before .before .before in
-    let n = tested-nat 200000 2000000 (fit s) (c .before .before .before .before .covered .ensures) (c .before .before .before .if1 .left) (c .before .to-u64 .ensures) in
-    rw (tested 200000 2000000 (fit s) (c .before .before .before .before .covered .ensures) (c .before .before .before .if1 .left)) (ap gives (psi-read _ _ _ (s .pre) (c .read .ensures) ∙ ap airPsiAt (n .number)))
+    let n = tested-nat coldest hottest (fit s) (c .before .before .before .before .covered .ensures) (c .before .before .before .if1 .left) (c .before .to-u64 .ensures) in
+    rw (tested coldest hottest (fit s) (c .before .before .before .before .covered .ensures) (c .before .before .before .if1 .left)) (ap gives (psi-read _ _ _ (s .pre) (c .read .ensures) ∙ ap airPsiAt (n .number)))
 
 pub psi-lent-spec : {M : Type 1} → statement M
 psi-lent-spec = tie.close (tie.spec covered-requires returns to-u64-requires read-requires returns-2)
