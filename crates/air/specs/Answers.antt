@@ -23,8 +23,8 @@ paperReading (Is n) = gives n
 paperReading (Refused r) = refused r
 
 -- refusal 6 outside 200,000 to 2,000,000 mK
-abbrev pub heatTold : ℤ → Told ℕ
-heatTold mk = first (6 when outside (pos coldest) (pos hottest) mk ∷ []) (airHeat (up mk))
+abbrev pub airHeatTold : ℤ → Told ℕ
+airHeatTold mk = first (6 when outside (pos coldest) (pos hottest) mk ∷ []) (airHeat (up mk))
 
 abbrev pub psiTold : ℤ → Told ℕ
 psiTold mk = first (6 when outside (pos coldest) (pos hottest) mk ∷ []) (airPsiAt (up mk))

@@ -14,9 +14,9 @@ use Rattle.refusal.specs.Refusals.{_when_, Demand1}
 use Rattle.refusal.specs.RefusalsLaws.{demand-1}
 use Rattle.air.specs.Readings.{airHeat, airPsiAt}
 use Rattle.air.specs.Inverse.{found}
-use Rattle.air.specs.Answers.{paperReading, heatTold, psiTold, cpTold, psiValue, paperPsi, psiOrder, PsiInverse}
+use Rattle.air.specs.Answers.{paperReading, airHeatTold, psiTold, cpTold, psiValue, paperPsi, psiOrder, PsiInverse}
 
-pub demand-1-heat : (mk : ℤ) (r : Reading) → paperReading r ≡ heatTold mk → Demand1 (6 when outside (pos coldest) (pos hottest) mk ∷ []) (airHeat (up mk)) (paperReading r)
+pub demand-1-heat : (mk : ℤ) (r : Reading) → paperReading r ≡ airHeatTold mk → Demand1 (6 when outside (pos coldest) (pos hottest) mk ∷ []) (airHeat (up mk)) (paperReading r)
 demand-1-heat mk r e = demand-1 _ _ e
 
 pub demand-1-psi : (mk : ℤ) (r : Reading) → paperReading r ≡ psiTold mk → Demand1 (6 when outside (pos coldest) (pos hottest) mk ∷ []) (airPsiAt (up mk)) (paperReading r)

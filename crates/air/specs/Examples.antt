@@ -12,13 +12,13 @@ use Rattle.air.specs.Halving.{halvings, halving}
 use Rattle.air.specs.ReadingsLaws.{straight, psi-straight}
 use Rattle.air.specs.Inverse.{temperature, rest, looks}
 use Rattle.air.specs.InverseLaws.{temperature-is, rest-is}
-use Rattle.air.specs.Answers.{heatTold, psiTold, cpTold, psiValue}
+use Rattle.air.specs.Answers.{airHeatTold, psiTold, cpTold, psiValue}
 
-pub P1 : heatTold (pos 200000) ≡ gives 4776000
+pub P1 : airHeatTold (pos 200000) ≡ gives 4776000
 unfolding inZ rowsH column airH reading between airHeat
 P1 = refl
 
-pub P2 : heatTold (pos 200500) ≡ gives 4788000
+pub P2 : airHeatTold (pos 200500) ≡ gives 4788000
 unfolding inZ rowsH column airH reading between airHeat
 P2 = refl
 
@@ -27,19 +27,19 @@ unfolding inZ rowsPsi column airPsi reading between airPsiAt
 P3 = refl
 
 -- the last row alone, and both sides of the range
-pub heat-last : heatTold (pos 2000000) ≡ gives 53789000
+pub heat-last : airHeatTold (pos 2000000) ≡ gives 53789000
 unfolding inZ rowsH column airH reading between airHeat
 heat-last = refl
 
-pub heat-under : heatTold (pos 199999) ≡ refuses 6
+pub heat-under : airHeatTold (pos 199999) ≡ refuses 6
 unfolding inZ
 heat-under = refl
 
-pub heat-over : heatTold (pos 2000001) ≡ refuses 6
+pub heat-over : airHeatTold (pos 2000001) ≡ refuses 6
 unfolding inZ
 heat-over = refl
 
-pub heat-below-zero : heatTold (negsuc 0) ≡ refuses 6
+pub heat-below-zero : airHeatTold (negsuc 0) ≡ refuses 6
 unfolding inZ
 heat-below-zero = refl
 

@@ -13,27 +13,27 @@ abbrev pub middle : ℕ → ℕ → ℕ
 middle lo hi = (lo + hi) / 2
 
 -- what a search leaves: the lower of its last two ends, and its looks in order
-pub record Search : Type 0 where
+pub record SearchLeft : Type 0 where
   pub row : ℕ
   pub looks : List ℕ
 
-abbrev pub stopped : ℕ → Search
-stopped lo = record { row = lo; looks = [] }
+abbrev pub lookless : ℕ → SearchLeft
+lookless lo = record { row = lo; looks = [] }
 
-abbrev pub looked : ℕ → Search → Search
+abbrev pub looked : ℕ → SearchLeft → SearchLeft
 looked m s = record { row = s .row; looks = m ∷ s .looks }
 
 -- stop when the ends differ by 1; else look at the middle, and ask the same rule of the upper half if the test passes there, else of the lower.
 -- The first number bounds the looks: the kept half is always narrower, so the width is enough.
-unfoldable pub halvings : (ℕ → Bool) → ℕ → ℕ → ℕ → Search
-halvings p zero lo hi = stopped lo
+unfoldable pub halvings : (ℕ → Bool) → ℕ → ℕ → ℕ → SearchLeft
+halvings p zero lo hi = lookless lo
 halvings p (suc n) lo hi =
-    let upper : Search = halvings p n (middle lo hi) hi in
-    let lower : Search = halvings p n lo (middle lo hi) in
-    let more : Search = looked (middle lo hi) (cond (p (middle lo hi)) upper lower) in
-    cond (leb hi (lo + 1)) (stopped lo) more
+    let upper : SearchLeft = halvings p n (middle lo hi) hi in
+    let lower : SearchLeft = halvings p n lo (middle lo hi) in
+    let more : SearchLeft = looked (middle lo hi) (cond (p (middle lo hi)) upper lower) in
+    cond (leb hi (lo + 1)) (lookless lo) more
 
-unfoldable pub halving : (ℕ → Bool) → ℕ → ℕ → Search
+unfoldable pub halving : (ℕ → Bool) → ℕ → ℕ → SearchLeft
 halving p lo hi = halvings p (hi - lo) lo hi
 
 -- the highest number from `from` to `to` that passes the test, by counting down

@@ -20,18 +20,18 @@ use lib.ListN.{length, drop, replicate, set, length-set, length-append, length-r
 use lib.Seq.{sets, sets-eq, drop-append-le}
 use Rattle.rows.specs.Limits.{firstKelvin, lastKelvin}
 use Rattle.air.specs.Limits.{lookPlaces}
-use Rattle.air.specs.Halving.{middle, Search, looked, stopped, halvings, halving, highestBy, highest, eleven, Room, Halved}
+use Rattle.air.specs.Halving.{middle, SearchLeft, looked, lookless, halvings, halving, highestBy, highest, eleven, Room, Halved}
 use Rattle.refusal.specs.BoolLaws.{by-bool}
 
 module _ (p : ℕ → Bool) where
-  stop : (n lo hi : ℕ) → hi ≤ lo + 1 → halvings p n lo hi ≡ stopped lo
+  stop : (n lo hi : ℕ) → hi ≤ lo + 1 → halvings p n lo hi ≡ lookless lo
   unfolding halvings
   stop zero lo hi h = refl
-  stop (suc n) lo hi h = ap (λ (b : Bool). cond b (stopped lo) (looked (middle lo hi) (cond (p (middle lo hi)) (halvings p n (middle lo hi) hi) (halvings p n lo (middle lo hi))))) (le-leb hi (lo + 1) h)
+  stop (suc n) lo hi h = ap (λ (b : Bool). cond b (lookless lo) (looked (middle lo hi) (cond (p (middle lo hi)) (halvings p n (middle lo hi) hi) (halvings p n lo (middle lo hi))))) (le-leb hi (lo + 1) h)
 
   more : (n lo hi : ℕ) → lo + 1 < hi → halvings p (suc n) lo hi ≡ looked (middle lo hi) (cond (p (middle lo hi)) (halvings p n (middle lo hi) hi) (halvings p n lo (middle lo hi)))
   unfolding halvings
-  more n lo hi h = ap (λ (b : Bool). cond b (stopped lo) (looked (middle lo hi) (cond (p (middle lo hi)) (halvings p n (middle lo hi) hi) (halvings p n lo (middle lo hi))))) (lt-leb hi (lo + 1) h)
+  more n lo hi h = ap (λ (b : Bool). cond b (lookless lo) (looked (middle lo hi) (cond (p (middle lo hi)) (halvings p n (middle lo hi) hi) (halvings p n lo (middle lo hi))))) (lt-leb hi (lo + 1) h)
 
   -- any bound that is wide enough gives the same
   enough : (n m lo hi : ℕ) → hi ≤ lo + suc n → hi ≤ lo + suc m → halvings p n lo hi ≡ halvings p m lo hi
@@ -47,10 +47,10 @@ module _ (p : ℕ → Bool) where
           → halvings p (suc n) lo hi ≡ halvings p (suc m) lo hi
       wide w u l =
           more n lo hi w
-          ∙ ap₂ (λ (a b : Search). looked (middle lo hi) (cond (p (middle lo hi)) a b)) (u (omega arith) (omega arith)) (l (omega arith) (omega arith))
+          ∙ ap₂ (λ (a b : SearchLeft). looked (middle lo hi) (cond (p (middle lo hi)) a b)) (u (omega arith) (omega arith)) (l (omega arith) (omega arith))
           ∙ sym (more m lo hi w)
 
-  pub halving-stop : (lo hi : ℕ) → hi ≤ lo + 1 → halving p lo hi ≡ stopped lo
+  pub halving-stop : (lo hi : ℕ) → hi ≤ lo + 1 → halving p lo hi ≡ lookless lo
   unfolding halving
   halving-stop lo hi h = stop (hi - lo) lo hi h
 
@@ -59,7 +59,7 @@ module _ (p : ℕ → Bool) where
   halving-more lo hi w =
       enough (hi - lo) (suc (hi - lo)) lo hi (omega arith) (omega arith)
       ∙ more (hi - lo) lo hi w
-      ∙ ap₂ (λ (a b : Search). looked (middle lo hi) (cond (p (middle lo hi)) a b))
+      ∙ ap₂ (λ (a b : SearchLeft). looked (middle lo hi) (cond (p (middle lo hi)) a b))
       (enough (hi - lo) (hi - middle lo hi) (middle lo hi) hi (omega arith) (omega arith))
       (enough (hi - lo) (middle lo hi - lo) lo (middle lo hi) (omega arith) (omega arith))
 
@@ -69,14 +69,14 @@ module _ (p : ℕ → Bool) where
   pub halving-lower : (lo hi : ℕ) → lo + 1 < hi → p (middle lo hi) ≡ false → halving p lo hi ≡ looked (middle lo hi) (halving p lo (middle lo hi))
   halving-lower lo hi w e = halving-more lo hi w ∙ ap (λ (b : Bool). looked (middle lo hi) (cond b (halving p (middle lo hi) hi) (halving p lo (middle lo hi)))) e
 
-  module _ (P : ℕ → ℕ → Search → Type 0)
-      (ends : (lo : ℕ) → P lo (lo + 1) (stopped lo))
-      (upper : (lo hi : ℕ) (s : Search) → lo + 1 < hi → p (middle lo hi) ≡ true → P (middle lo hi) hi s → P lo hi (looked (middle lo hi) s))
-      (lower : (lo hi : ℕ) (s : Search) → lo + 1 < hi → p (middle lo hi) ≡ false → P lo (middle lo hi) s → P lo hi (looked (middle lo hi) s)) where
+  module _ (P : ℕ → ℕ → SearchLeft → Type 0)
+      (ends : (lo : ℕ) → P lo (lo + 1) (lookless lo))
+      (upper : (lo hi : ℕ) (s : SearchLeft) → lo + 1 < hi → p (middle lo hi) ≡ true → P (middle lo hi) hi s → P lo hi (looked (middle lo hi) s))
+      (lower : (lo hi : ℕ) (s : SearchLeft) → lo + 1 < hi → p (middle lo hi) ≡ false → P lo (middle lo hi) s → P lo hi (looked (middle lo hi) s)) where
     at-ends : (lo hi : ℕ) → lo < hi → hi ≤ lo + 1 → P lo hi (halving p lo hi)
     at-ends lo hi l h =
         let e : lo + 1 ≡ hi = omega arith in
-        subst (λ (s : Search). P lo hi s) (sym (halving-stop lo hi h)) (subst (λ (j : ℕ). P lo j (stopped lo)) e (ends lo))
+        subst (λ (s : SearchLeft). P lo hi s) (sym (halving-stop lo hi h)) (subst (λ (j : ℕ). P lo j (lookless lo)) e (ends lo))
 
     within : (n lo hi : ℕ) → lo < hi → hi ≤ lo + suc n → P lo hi (halving p lo hi)
     within zero lo hi l h = at-ends lo hi l (omega arith)
@@ -90,14 +90,14 @@ module _ (p : ℕ → Bool) where
             → P lo hi (halving p lo hi)
         wide w u d =
             by-bool (p (middle lo hi))
-            (λ e. subst (λ (s : Search). P lo hi s) (sym (halving-upper lo hi w e)) (upper lo hi (halving p (middle lo hi) hi) w e (u (omega arith) (omega arith))))
-            (λ e. subst (λ (s : Search). P lo hi s) (sym (halving-lower lo hi w e)) (lower lo hi (halving p lo (middle lo hi)) w e (d (omega arith) (omega arith))))
+            (λ e. subst (λ (s : SearchLeft). P lo hi s) (sym (halving-upper lo hi w e)) (upper lo hi (halving p (middle lo hi) hi) w e (u (omega arith) (omega arith))))
+            (λ e. subst (λ (s : SearchLeft). P lo hi s) (sym (halving-lower lo hi w e)) (lower lo hi (halving p lo (middle lo hi)) w e (d (omega arith) (omega arith))))
 
     pub halving-ind : (lo hi : ℕ) → lo < hi → P lo hi (halving p lo hi)
     halving-ind lo hi l = within (hi - lo) lo hi l (omega arith)
 
 -- what is kept
-pub record Kept (p : ℕ → Bool) (lo hi : ℕ) (s : Search) : Type 0 where
+pub record Kept (p : ℕ → Bool) (lo hi : ℕ) (s : SearchLeft) : Type 0 where
   pub least : lo ≤ s .row
   pub most : s .row < hi
   pub passes : p (s .row) ≡ true
@@ -120,7 +120,7 @@ at-most p lo hi =
     (λ lo hi s w e h. look lo hi w lo (middle lo hi) s (omega arith) h)
     lo hi
   where
-    look : (lo hi : ℕ) → lo + 1 < hi → (a b : ℕ) (s : Search) → b - a + (b - a) ≤ hi + 1 - lo
+    look : (lo hi : ℕ) → lo + 1 < hi → (a b : ℕ) (s : SearchLeft) → b - a + (b - a) ≤ hi + 1 - lo
         → ((n : ℕ) → b ≤ a + 2 ^ n → length (s .looks) ≤ n) → (n : ℕ) → hi ≤ lo + 2 ^ n → suc (length (s .looks)) ≤ n
     look lo hi w a b s y h zero u = omega arith
     look lo hi w a b s y h (suc n) u = omega (arith, h n (omega (arith, pow-succ' 2 n)))
@@ -137,7 +137,7 @@ at-least p lo hi =
     ends lo zero l = omega arith
     ends lo (suc n) l = absurd (omega (arith, pow-succ' 2 n, pow-pos n))
 
-    look : (lo hi : ℕ) → lo + 1 < hi → (a b : ℕ) (s : Search) → hi ≤ lo + (b - a) + (b - a) + 1
+    look : (lo hi : ℕ) → lo + 1 < hi → (a b : ℕ) (s : SearchLeft) → hi ≤ lo + (b - a) + (b - a) + 1
         → ((n : ℕ) → a + 2 ^ n ≤ b → n ≤ length (s .looks)) → (n : ℕ) → lo + 2 ^ n ≤ hi → n ≤ suc (length (s .looks))
     look lo hi w a b s x h zero l = omega arith
     look lo hi w a b s x h (suc n) l = omega (arith, h n (omega (arith, pow-succ' 2 n, pow-pos n)))
@@ -215,22 +215,22 @@ to-lower {p} {lo} {hi} w e = record { turn = halving-lower p lo hi w e }
 pub ended : {p : ℕ → Bool} {lo hi at : ℕ} {l : List ℕ} → hi ≤ lo + 1 → Halved p lo hi at l lo l
 ended {p} {lo} {hi} {at} {l} h =
     let e = halving-stop p lo hi h in
-    record { row-is = sym (ap (λ (s : Search). s .row) e); list-is = sym (ap (λ (s : Search). sets l at (s .looks)) e) }
+    record { row-is = sym (ap (λ (s : SearchLeft). s .row) e); list-is = sym (ap (λ (s : SearchLeft). sets l at (s .looks)) e) }
 
 module _ {p : ℕ → Bool} {lo hi lo′ hi′ at : ℕ} {l : List ℕ} (t : Turn p lo hi lo′ hi′) where
   room-here : Room p lo hi at l → at < length l
-  room-here r = omega (arith, ap (λ (s : Search). length (s .looks)) (t .turn))
+  room-here r = omega (arith, ap (λ (s : SearchLeft). length (s .looks)) (t .turn))
 
   pub room-next : Room p lo hi at l → Room p lo′ hi′ (at + 1) (set l at (middle lo hi))
-  room-next r = record { room = omega (arith, ap (λ (s : Search). length (s .looks)) (t .turn), length-set l at (middle lo hi)) }
+  room-next r = record { room = omega (arith, ap (λ (s : SearchLeft). length (s .looks)) (t .turn), length-set l at (middle lo hi)) }
 
   pub turned : {row : ℕ} {after : List ℕ} → Halved p lo′ hi′ (at + 1) (set l at (middle lo hi)) row after → Halved p lo hi at l row after
   turned h = record {
-    row-is = h .row-is ∙ sym (ap (λ (s : Search). s .row) (t .turn));
+    row-is = h .row-is ∙ sym (ap (λ (s : SearchLeft). s .row) (t .turn));
     list-is =
         h .list-is
         ∙ ap (λ (i : ℕ). sets (set l at (middle lo hi)) i (halving p lo′ hi′ .looks)) (add-one at)
-        ∙ sym (ap (λ (s : Search). sets l at (s .looks)) (t .turn));
+        ∙ sym (ap (λ (s : SearchLeft). sets l at (s .looks)) (t .turn));
   }
 
 -- whichever half is kept, there is a look

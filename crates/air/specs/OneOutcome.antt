@@ -11,7 +11,7 @@ use Rattle.air.specs.declared.PsiAnswer.the-variants.{At, Refused as Psi
 use Rattle.refusal.specs.Refusals.{Told, gives, refused}
 use Rattle.refusal.specs.RefusalsLaws.{one-told}
 use Rattle.air.specs.Inverse.{Found}
-use Rattle.air.specs.Answers.{paperReading, heatTold, psiTold, cpTold, paperPsi, PsiInverse}
+use Rattle.air.specs.Answers.{paperReading, airHeatTold, psiTold, cpTold, paperPsi, PsiInverse}
 
 -- the answer that the paper's telling stands for
 reading : Told ℕ → Reading
@@ -32,7 +32,7 @@ unfolding psiAnswer
 psi-back (At t n) = refl
 psi-back (PsiRefused r) = refl
 
-pub one-heat : (mk : ℤ) (r s : Reading) → paperReading r ≡ heatTold mk → paperReading s ≡ heatTold mk → r ≡ s
+pub one-heat : (mk : ℤ) (r s : Reading) → paperReading r ≡ airHeatTold mk → paperReading s ≡ airHeatTold mk → r ≡ s
 one-heat mk = one-told paperReading reading reading-back
 
 pub one-psi : (mk : ℤ) (r s : Reading) → paperReading r ≡ psiTold mk → paperReading s ≡ psiTold mk → r ≡ s

@@ -14,7 +14,7 @@ ghost use Rattle.signed.specs.Zed.{inZ};
 ghost use Rattle.rows.specs.Rows.{rowsH, rowsPsi, rowsCp};
 ghost use Rattle.rows.specs.Table.{column};
 ghost use Rattle.air.specs.Limits.{lookPlaces, coldest, hottest};
-ghost use Rattle.air.specs.Answers.{paperReading, heatTold, psiTold, cpTold, PsiInverse};
+ghost use Rattle.air.specs.Answers.{paperReading, airHeatTold, psiTold, cpTold, PsiInverse};
 ghost use Rattle.air.specs.Readings.{reading, between, NeverFalls};
 
 // the last row, in mK
@@ -70,7 +70,7 @@ pub fn lay(eleven: &[u32; crate::LOOK_PLACES], looks: &mut [u32])
 // The heat of air at a temperature, refusal 6 tested.
 pub fn heat_lent(t: Millikelvin, heats: &[u32; rows::ROWS]) -> Reading
     requires { ⌜ now heats ≡ rowsH ⌝ }
-    ensures { λ r. ⌜ paperReading r ≡ heatTold (t .0) ⌝ }
+    ensures { λ r. ⌜ paperReading r ≡ airHeatTold (t .0) ⌝ }
 {
     if !covered(t) {
         return Reading::Refused(Refusal::Plain(crate::TEMPERATURE));

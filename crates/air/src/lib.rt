@@ -7,7 +7,7 @@ mod search;
 
 use refusal::Refusal;
 ghost use mathlib.Core.Path.{_≡_};
-ghost use Rattle.air.specs.Answers.{paperReading, heatTold, psiTold, cpTold, PsiInverse};
+ghost use Rattle.air.specs.Answers.{paperReading, airHeatTold, psiTold, cpTold, PsiInverse};
 
 // A temperature in thousandths of a kelvin.
 pub struct Millikelvin(pub i64);
@@ -48,7 +48,7 @@ pub const LIST_SHORT: u32 = 10;
 
 // The heat of air per pound at a temperature, in 0.00001 C.H.U./lb.
 pub fn heat(t: Millikelvin) -> Reading
-    ensures { λ r. ⌜ paperReading r ≡ heatTold (t .0) ⌝ }
+    ensures { λ r. ⌜ paperReading r ≡ airHeatTold (t .0) ⌝ }
 {
     let heats = rows::columns::heat_column();
     inner::heat_lent(t, &heats)

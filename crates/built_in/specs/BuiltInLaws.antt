@@ -8,7 +8,7 @@ use lib.Dec.{leb}
 use lib.ListN.{length, getD}
 use borrow.Author.Tests.{leb-true, le-ltb}
 use Rattle.rows.specs.Limits.{firstKelvin, tableRows}
-use Rattle.text.specs.ReadingLaws.{and-left, and-right}
+use Rattle.text.specs.WholesLaws.{and-left, and-right}
 use Rattle.rows.specs.Rows.{rowsH}
 use Rattle.rows.specs.Table.{airH, column}
 use Rattle.sheet.specs.Limits.{mostFigure, sheetNumbers}
@@ -39,20 +39,20 @@ unfolding cell
 cell-next a b c s i j = let e : 3 * suc i + j ≡ suc (suc (suc (3 * i + j))) = omega arith in rw e refl
 
 record Kept (s hs : List ℕ) (i : ℕ) : Type 0 where
-  up : (j : ℕ) → j < 3 → cell s i j ≤ cell s (suc i) j
+  climbs : (j : ℕ) → j < 3 → cell s i j ≤ cell s (suc i) j
   slow : cell s (suc i) 0 - cell s i 0 ≤ 4 * (getD hs (suc i) 0 - getD hs i 0)
   most : (j : ℕ) → j < 3 → cell s (suc i) j ≤ mostFigure
 
 kept-next : (a b c h : ℕ) (s hs : List ℕ) (i : ℕ) → Kept s hs i → Kept (a ∷ b ∷ c ∷ s) (h ∷ hs) (suc i)
 kept-next a b c h s hs i k = record {
-  up = λ j g. rw (cell-next a b c s i j, cell-next a b c s (suc i) j) (k .up j g);
+  climbs = λ j g. rw (cell-next a b c s i j, cell-next a b c s (suc i) j) (k .climbs j g);
   slow = rw (cell-next a b c s i 0, cell-next a b c s (suc i) 0) (k .slow);
   most = λ j g. rw (cell-next a b c s (suc i) j) (k .most j g);
 }
 
 kept-first : (a b c h d e f x : ℕ) (s hs : List ℕ) → rowKeeps a b c h d e f x ≡ true → Kept (a ∷ b ∷ c ∷ d ∷ e ∷ f ∷ s) (h ∷ x ∷ hs) 0
 unfolding rowKeeps cell
-kept-first a b c h d e f x s hs t = record { up = up; slow = leb-true _ _ (and-left _ _ t3); most = most }
+kept-first a b c h d e f x s hs t = record { climbs = climbs; slow = leb-true _ _ (and-left _ _ t3); most = most }
   where
     t1 : (leb b e && (leb c f && (leb (d - a) (4 * (x - h)) && (leb d mostFigure && (leb e mostFigure && leb f mostFigure))))) ≡ true
     t1 = and-right (leb a d) _ t
@@ -66,11 +66,11 @@ kept-first a b c h d e f x s hs t = record { up = up; slow = leb-true _ _ (and-l
     t4 : (leb d mostFigure && (leb e mostFigure && leb f mostFigure)) ≡ true
     t4 = and-right (leb (d - a) (4 * (x - h))) _ t3
 
-    up : (j : ℕ) → j < 3 → getD (a ∷ b ∷ c ∷ d ∷ e ∷ f ∷ s) (3 * 0 + j) 0 ≤ getD (a ∷ b ∷ c ∷ d ∷ e ∷ f ∷ s) (3 * 1 + j) 0
-    up zero g = leb-true _ _ (and-left _ _ t)
-    up (suc zero) g = leb-true _ _ (and-left _ _ t1)
-    up (suc (suc zero)) g = leb-true _ _ (and-left _ _ t2)
-    up (suc (suc (suc j))) g = absurd (omega arith)
+    climbs : (j : ℕ) → j < 3 → getD (a ∷ b ∷ c ∷ d ∷ e ∷ f ∷ s) (3 * 0 + j) 0 ≤ getD (a ∷ b ∷ c ∷ d ∷ e ∷ f ∷ s) (3 * 1 + j) 0
+    climbs zero g = leb-true _ _ (and-left _ _ t)
+    climbs (suc zero) g = leb-true _ _ (and-left _ _ t1)
+    climbs (suc (suc zero)) g = leb-true _ _ (and-left _ _ t2)
+    climbs (suc (suc (suc j))) g = absurd (omega arith)
 
     most : (j : ℕ) → j < 3 → getD (a ∷ b ∷ c ∷ d ∷ e ∷ f ∷ s) (3 * 1 + j) 0 ≤ mostFigure
     most zero g = leb-true _ _ (and-left _ _ t4)
@@ -115,7 +115,7 @@ module _ (s : List ℕ) (n : length s ≡ sheetNumbers) (t : passes s rowsH ≡ 
   most-at i j h g = rw (cell-next 0 0 0 s i j) at (kept i h .most j g)
 
   up-at : (i j : ℕ) → suc i < tableRows → j < 3 → cell s i j ≤ cell s (suc i) j
-  up-at i j h g = rw (cell-next 0 0 0 s i j, cell-next 0 0 0 s (suc i) j) at (kept (suc i) h .up j g)
+  up-at i j h g = rw (cell-next 0 0 0 s i j, cell-next 0 0 0 s (suc i) j) at (kept (suc i) h .climbs j g)
 
   slow-at : (i : ℕ) → suc i < tableRows → cell s (suc i) 0 - cell s i 0 ≤ 4 * (getD rowsH (suc i) 0 - getD rowsH i 0)
   slow-at i h = rw (cell-next 0 0 0 s i 0, cell-next 0 0 0 s (suc i) 0) at (kept (suc i) h .slow)

@@ -11,7 +11,7 @@ use Rattle.air.specs.Answers.{paperPsi, PsiInverse}
 use Rattle.sheet.specs.Limits.{sheetNumbers}
 use Rattle.sheet.specs.declared.SheetAnswer.{SheetAnswer}
 use Rattle.sheet.specs.declared.SheetAnswer.the-variants.{Good, Refused}
-use Rattle.sheet.specs.Answers.{paper, numbersOf, listAfter, SheetRead}
+use Rattle.sheet.specs.Answers.{paperSheet, numbersOf, listAfter, SheetRead}
 use Rattle.built_in.specs.BuiltIn.{builtIn}
 use Rattle.gas.specs.declared.Charge.{Charge}
 use Rattle.gas.specs.declared.TemperatureAnswer.{TemperatureAnswer}
@@ -28,11 +28,11 @@ use Rattle.capi.specs.Flat.{flatSheet, flatTemperature, flatPsi, flatWal
 use Rattle.capi.specs.Lent.{listTold, SheetIs, BuiltInIs, TemperatureIs, PsiIs, WalkIs}
 
 -- the list by the answer is the list by what it tells
-list-as-told : (a : SheetAnswer) (numbers before : List ℕ) → listAfter a numbers before ≡ listTold (paper a) numbers before
+list-as-told : (a : SheetAnswer) (numbers before : List ℕ) → listAfter a numbers before ≡ listTold (paperSheet a) numbers before
 list-as-told Good numbers before = refl
 list-as-told (Refused r) numbers before = refl
 
-pub sheet-told : {text before later : List ℕ} {a : SheetAnswer} {r : SheetTold} → SheetRead text before a later → r ≡ flatSheet (paper a) → SheetIs text before r later
+pub sheet-told : {text before later : List ℕ} {a : SheetAnswer} {r : SheetTold} → SheetRead text before a later → r ≡ flatSheet (paperSheet a) → SheetIs text before r later
 sheet-told {before = before} {a = a} p q =
     record {
       form = p .form;

@@ -17,7 +17,7 @@ use Rattle.refusal.specs.RefusalsLaws.{first-or-clear, refusal-given, values-gi
 use Rattle.rows.specs.Limits.{firstKelvin, lastKelvin}
 use Rattle.air.specs.Limits.{coldest, hottest}
 use Rattle.air.specs.Inverse.{unreached}
-use Rattle.air.specs.Answers.{heatTold as airHeatTold, psiTold as airPsiTold, cpTold as airCpTold, psiOrder}
+use Rattle.air.specs.Answers.{airHeatTold, psiTold as airPsiTold, cpTold as airCpTold, psiOrder}
 use Rattle.sheet.specs.Sheet.{notLong}
 use Rattle.sheet.specs.Answers.{breaks, badRowOf, sheetLines, judgeTold}
 use Rattle.gas.specs.declared.Charge.{Charge}

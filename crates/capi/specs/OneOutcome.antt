@@ -5,7 +5,7 @@ use Prim.Native.Nat.{ℕ}
 use lib.IntN.{ℤ}
 use lib.Ieee.{Float}
 use Rattle.refusal.specs.Refusals.{Told}
-use Rattle.air.specs.Answers.{heatTold as airHeatTold, psiTold as airPsiTold, cpTold as airCpTold}
+use Rattle.air.specs.Answers.{airHeatTold, psiTold as airPsiTold, cpTold as airCpTold}
 use Rattle.sheet.specs.Answers.{readTold, judgeTold}
 use Rattle.sheet.specs.FormLaws.{one-form}
 use Rattle.gas.specs.declared.Charge.{Charge}

@@ -10,7 +10,7 @@ use refusal::Refusal;
 use sheet::SheetAnswer;
 ghost use mathlib.Core.Path.{_≡_};
 ghost use mathlib.Core.List.{[], _∷_};
-ghost use Rattle.air.specs.Answers.{heatTold as airHeatTold, psiTold as airPsiTold, cpTold as airCpTold};
+ghost use Rattle.air.specs.Answers.{airHeatTold, psiTold as airPsiTold, cpTold as airCpTold};
 ghost use Rattle.sheet.specs.Answers.{judgeTold};
 ghost use Rattle.gas.specs.Burning.{document01, chargeIn};
 ghost use Rattle.gas.specs.Answers.{burnTold, heatTold, contentTold, specificTold};

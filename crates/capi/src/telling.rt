@@ -25,10 +25,10 @@ use walk::WalkAnswer;
 ghost use mathlib.Core.Path.{_≡_};
 ghost use Rattle.refusal.specs.Refusals.{refused};
 ghost use Rattle.air.specs.Answers.{paperReading, paperPsi};
-ghost use Rattle.sheet.specs.Answers.{paper as paperSheet};
+ghost use Rattle.sheet.specs.Answers.{paperSheet};
 ghost use Rattle.gas.specs.Answers.{paperBurn, paperHeat, paperSpecific, paperTemperature};
 ghost use Rattle.walk.specs.Walk.{paperWalk};
-ghost use Rattle.marking.specs.Marking.{paper as paperMark};
+ghost use Rattle.marking.specs.Marking.{paperMark};
 ghost use Rattle.marking.specs.Figures.{paperStation};
 ghost use Rattle.capi.specs.Flat.{rowIn, placedIn, flatSheet, flatReading, flatBurn, flatHeat, flatTemperature, flatPsi, flatWalk, flatBegun, flatStation, flatMark, typedOf};
 

@@ -13,9 +13,9 @@ use Rattle.fields.specs.declared.Three.{Three}
 use Rattle.fields.specs.declared.Three.the-variants.{Are as AreThree, Not as NotThree}
 use Rattle.fields.specs.Fields.{fieldsOf, holdsReturn, oneOf, threeOf, fourOf}
 use Rattle.air.specs.Inverse.{looks}
-use Rattle.air.specs.Answers.{heatTold as airHeatTold, psiTold, cpTold, psiValue, psiInverseTold}
+use Rattle.air.specs.Answers.{airHeatTold, psiTold, cpTold, psiValue, psiInverseTold}
 use Rattle.sheet.specs.Sheet.{Accepted}
-use Rattle.sheet.specs.Answers.{paper, judgeTold, SheetRead}
+use Rattle.sheet.specs.Answers.{paperSheet, judgeTold, SheetRead}
 use Rattle.sheet.specs.declared.SheetAnswer.{SheetAnswer}
 use Rattle.sheet.specs.declared.SheetAnswer.the-variants.{Good, Refused as SheetRefused}
 use Rattle.gas.specs.declared.Charge.{Charge}
@@ -25,26 +25,26 @@ use Rattle.gas.specs.Answers.{burnTold, heatTold, contentTold, specificTold, te
 use Rattle.marking.specs.Figures.{numbersTold}
 use Rattle.console.specs.declared.requests.Request.{Request}
 use Rattle.console.specs.declared.requests.Request.the-variants.{OfAir, Burn, OfGas, Walk, Mark, Unknown}
-use Rattle.console.specs.declared.requests.Reading.{Reading}
-use Rattle.console.specs.declared.requests.Reading.the-variants.{Heat as AirHeat, Psi as AirPsi, Cp as AirCp, Temperature as AirTemperature}
+use Rattle.console.specs.declared.requests.AirAsk.{AirAsk}
+use Rattle.console.specs.declared.requests.AirAsk.the-variants.{Heat as AirHeat, Psi as AirPsi, Cp as AirCp, Temperature as AirTemperature}
 use Rattle.console.specs.declared.requests.Quantity.{Quantity}
 use Rattle.console.specs.declared.requests.Quantity.the-variants.{Heat, Content, Specific, Temperature, Station}
-use Rattle.console.specs.declared.requests.Asked.{Asked}
-use Rattle.console.specs.declared.requests.Asked.the-variants.{Of, Refused, Misfit}
-use Rattle.console.specs.Requests.{requestOf, askedOf, unknownText, misfitText, returnText}
+use Rattle.console.specs.declared.requests.GasAsk.{GasAsk}
+use Rattle.console.specs.declared.requests.GasAsk.the-variants.{Of, Refused, Misfit}
+use Rattle.console.specs.Requests.{requestOf, gasAskOf, unknownText, misfitText, returnText}
 use Rattle.wording.specs.Texts.{refusalText, readingText, inverseText, burntText, wholeText, stationText}
 use Rattle.console.specs.Marks.{markRequest}
 use Rattle.console.specs.Walks.{walkRequest}
 
 -- air-heat and air-psi mK, air-cp K, air-temperature psi
-abbrev pub airText : Reading → ℤ → List ℕ
+abbrev pub airText : AirAsk → ℤ → List ℕ
 airText AirHeat mk = readingText (airHeatTold mk)
 airText AirPsi mk = readingText (psiTold mk)
 airText AirCp kelvin = readingText (cpTold kelvin)
 airText AirTemperature psi = inverseText (psiInverseTold lookPlaces psi) (looks psiValue psi)
 
 -- what is asked of air
-abbrev pub airReply : Reading → Whole → List ℕ
+abbrev pub airReply : AirAsk → Whole → List ℕ
 airReply reading (Is number) = airText reading number
 airReply reading Not = misfitText
 
@@ -62,7 +62,7 @@ gasText Temperature s charge target = inverseText (temperatureTold document01 ch
 gasText Station s charge mk = stationText (numbersTold charge mk s)
 
 -- what is asked of a gas
-abbrev pub gasReply : Quantity → List ℕ → Asked → List ℕ
+abbrev pub gasReply : Quantity → List ℕ → GasAsk → List ℕ
 gasReply quantity s (Of charge number) = gasText quantity s charge number
 gasReply quantity s (Refused r) = refusalText r
 gasReply quantity s Misfit = misfitText
@@ -71,7 +71,7 @@ gasReply quantity s Misfit = misfitText
 abbrev pub replyText : SheetAnswer → List ℕ → Request → List (List ℕ) → List ℕ
 replyText verdict s (OfAir reading) fs = airReply reading (oneOf fs)
 replyText verdict s Burn fs = burnText (threeOf fs)
-replyText verdict s (OfGas quantity) fs = gasReply quantity s (askedOf (fourOf fs) verdict)
+replyText verdict s (OfGas quantity) fs = gasReply quantity s (gasAskOf (fourOf fs) verdict)
 replyText verdict s Walk fs = walkRequest verdict s fs
 replyText verdict s Mark fs = markRequest fs
 replyText verdict s Unknown fs = unknownText
@@ -89,7 +89,7 @@ answerOf verdict s line = lineText verdict s line ++ (10 ∷ [])
 
 -- after the reader: its refusal of the text, else what the judge tells of the list
 abbrev pub judgedAfter : SheetAnswer → SheetAnswer → List ℕ → Type 0
-judgedAfter Good verdict s = paper verdict ≡ judgeTold s
+judgedAfter Good verdict s = paperSheet verdict ≡ judgeTold s
 judgedAfter (SheetRefused r) verdict s = verdict ≡ SheetRefused r
 
 -- the verdict on a sheet text, read into a list
@@ -100,7 +100,7 @@ pub record Verdict (text before : List ℕ) (verdict : SheetAnswer) (s : List �
 
 -- what a program that holds a verdict knows: it is the judge's on the list, or that on the text that the list was read from
 pub data Judged (verdict : SheetAnswer) (s : List ℕ) : Type 0 where
-  ofList : paper verdict ≡ judgeTold s → Judged verdict s
+  ofList : paperSheet verdict ≡ judgeTold s → Judged verdict s
   ofText : {text before : List ℕ} → Verdict text before verdict s → Judged verdict s
 
 -- the columns of Table 1 that the answers read, lent by the program that built them: H, psi and Cp
@@ -110,7 +110,7 @@ pub record Columns (air psis cps : List ℕ) : Type 0 where
   pub cps-are : cps ≡ rowsCp
 
 -- what is asked of a sheet that was found good is asked of an accepted one
-abbrev pub Ready : Asked → List ℕ → Type 0
+abbrev pub Ready : GasAsk → List ℕ → Type 0
 Ready (Of charge number) s = Accepted s
 Ready (Refused r) s = Unit {0}
 Ready Misfit s = Unit {0}

@@ -7,7 +7,7 @@ use native.Mathlib.Omega.{arith}
 use borrow.Author.Tests.{le-leb, eq-eqb, eqb-true}
 use lib.Dec.{leb, eqb}
 use lib.ListN.{length, take, drop}
-use Rattle.text.specs.ReadingLaws.{and-left, and-right}
+use Rattle.text.specs.WholesLaws.{and-left, and-right}
 use Rattle.fields.specs.Fields.{spanOf, fieldsOf, fieldsFrom, holdsReturn}
 use Rattle.fields.specs.FieldsLaws.{fields-at}
 use Rattle.console.specs.Requests.{sameText, requestOf, returnText}

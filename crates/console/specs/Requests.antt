@@ -11,10 +11,10 @@ use Rattle.sheet.specs.declared.SheetAnswer.{SheetAnswer}
 use Rattle.sheet.specs.declared.SheetAnswer.the-variants.{Good, Refused as SheetRefused}
 use Rattle.console.specs.declared.requests.Request.{Request}
 use Rattle.console.specs.declared.requests.Request.the-variants.{OfAir, Burn, OfGas, Walk, Mark, Unknown}
-use Rattle.console.specs.declared.requests.Reading.the-variants.{Heat as AirHeat, Psi as AirPsi, Cp as AirCp, Temperature as AirTemperature}
+use Rattle.console.specs.declared.requests.AirAsk.the-variants.{Heat as AirHeat, Psi as AirPsi, Cp as AirCp, Temperature as AirTemperature}
 use Rattle.console.specs.declared.requests.Quantity.the-variants.{Heat, Content, Specific, Temperature, Station}
-use Rattle.console.specs.declared.requests.Asked.{Asked}
-use Rattle.console.specs.declared.requests.Asked.the-variants.{Of, Refused, Misfit}
+use Rattle.console.specs.declared.requests.GasAsk.{GasAsk}
+use Rattle.console.specs.declared.requests.GasAsk.the-variants.{Of, Refused, Misfit}
 
 -- two texts have the same bytes
 abbrev pub sameText : List ℕ → List ℕ → Bool
@@ -113,7 +113,7 @@ requestOf w =
     (gasRequest w))))
 
 -- four numbers are a charge and a number to be asked of the sheet; a sheet that was refused when it was read tells its refusal instead
-abbrev pub askedOf : Four → SheetAnswer → Asked
-askedOf (Are air carbon hydrogen number) Good = Of (chargeIn (air ∷ carbon ∷ hydrogen ∷ [])) number
-askedOf (Are air carbon hydrogen number) (SheetRefused r) = Refused r
-askedOf Not verdict = Misfit
+abbrev pub gasAskOf : Four → SheetAnswer → GasAsk
+gasAskOf (Are air carbon hydrogen number) Good = Of (chargeIn (air ∷ carbon ∷ hydrogen ∷ [])) number
+gasAskOf (Are air carbon hydrogen number) (SheetRefused r) = Refused r
+gasAskOf Not verdict = Misfit

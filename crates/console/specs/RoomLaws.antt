@@ -43,9 +43,9 @@ use Rattle.air.specs.Answers.{psiValue, psiOrder}
 use Rattle.refusal.specs.declared.Refusal.{Refusal}
 use Rattle.refusal.specs.declared.Refusal.the-variants.{Plain, At}
 use Rattle.wording.specs.Texts.{okText, fieldsText, refusalText, toldText, countedText, foundText, valueText, numbersText, productsText, burntText, verdictText, stateText, courseText}
-use Rattle.text.specs.ReadingLaws.{and-left, and-right}
+use Rattle.text.specs.WholesLaws.{and-left, and-right}
 use Rattle.sheet.specs.Sheet.{Accepted, notLong, firstBadRow}
-use Rattle.sheet.specs.Answers.{paper, sheetLines, judgeTold, Form, sheetOf, noSheet, breaks, badRowOf, SheetRead}
+use Rattle.sheet.specs.Answers.{paperSheet, sheetLines, judgeTold, Form, sheetOf, noSheet, breaks, badRowOf, SheetRead}
 use Rattle.sheet.specs.FirstBadLaws.{bad-row-most}
 use Rattle.gas.specs.declared.Charge.{Charge}
 use Rattle.sheet.specs.AnswersLaws.{accepted-of-told}
@@ -75,10 +75,10 @@ use Rattle.console.specs.declared.requests.Quantity.{Quantity}
 use Rattle.console.specs.declared.requests.Quantity.the-variants.{Heat, Content, Specific, Temperature, Station}
 use Rattle.console.specs.declared.requests.Request.{Request}
 use Rattle.console.specs.declared.requests.Request.the-variants.{OfAir, Burn, OfGas, Walk, Mark, Unknown}
-use Rattle.console.specs.declared.requests.Reading.{Reading}
-use Rattle.console.specs.declared.requests.Reading.the-variants.{Heat as AirHeat, Psi as AirPsi, Cp as AirCp, Temperature as AirTemperature}
+use Rattle.console.specs.declared.requests.AirAsk.{AirAsk}
+use Rattle.console.specs.declared.requests.AirAsk.the-variants.{Heat as AirHeat, Psi as AirPsi, Cp as AirCp, Temperature as AirTemperature}
 use Rattle.console.specs.declared.walks.Layout.the-variants.{Line as InLine, Page}
-use Rattle.console.specs.Requests.{askedOf, requestOf, returnText}
+use Rattle.console.specs.Requests.{gasAskOf, requestOf, returnText}
 use Rattle.console.specs.Marks.{kindOf, inUnit, markedText, numberText, typedText, kindText, markRequest}
 use Rattle.console.specs.Walks.{walkTold, stepsText, walkText, startOf, walkOf, endText, printedWalk}
 use Rattle.console.specs.Answers.{airText, airReply, burnText, gasText, gasReply, replyText, answerFields, lineText, answerOf}
@@ -301,7 +301,7 @@ short-air-temperature t = told-most (foundText (looks psiValue t)) replyRoom (ps
     most : (T : ℕ) → airPsiAt T ≤ 2000000000000000000
     most T = omega (arith, psi-at-most T)
 
-short-air : (reading : Reading) (n : Whole) → length (airReply reading n) ≤ replyRoom
+short-air : (reading : AirAsk) (n : Whole) → length (airReply reading n) ≤ replyRoom
 short-air AirHeat (Is mk) = short-air-heat mk
 short-air AirPsi (Is mk) = short-air-psi mk
 short-air AirCp (Is k) = short-air-cp k
@@ -401,12 +401,12 @@ abbrev pub Brief : SheetAnswer → Type 0
 Brief Good = Unit {0}
 Brief (SheetRefused r) = length (refusalText r) ≤ replyRoom
 
-brief-told : (ls : List Line) → Few ls → (verdict : SheetAnswer) → paper verdict ≡ first ls tt → Brief verdict
+brief-told : (ls : List Line) → Few ls → (verdict : SheetAnswer) → paperSheet verdict ≡ first ls tt → Brief verdict
 brief-told ls f Good e = tt
 brief-told ls f (SheetRefused r) e = omega (arith, refusal-most r (small-told ls tt f (sym e)))
 
 -- and so is every verdict of the judge of a list and of the reader of a text
-pub judge-brief : (s : List ℕ) (verdict : SheetAnswer) → paper verdict ≡ judgeTold s → Brief verdict
+pub judge-brief : (s : List ℕ) (verdict : SheetAnswer) → paperSheet verdict ≡ judgeTold s → Brief verdict
 judge-brief s verdict e = brief-told (sheetLines s) (few-sheet s) verdict e
 
 pub read-brief : {text before later : List ℕ} (verdict : SheetAnswer) → SheetRead text before verdict later → Brief verdict
@@ -418,7 +418,7 @@ read-brief {text} {before} verdict r =
     row-few (sheetOf numbers s) e = lit< tt
     row-few (noSheet i b) e = omega (arith, bad-row-most text i b)
 
-short-quantity : (verdict : SheetAnswer) → Brief verdict → (s : List ℕ) (q : Quantity) (numbers : Four) → length (gasReply q s (askedOf numbers verdict)) ≤ replyRoom
+short-quantity : (verdict : SheetAnswer) → Brief verdict → (s : List ℕ) (q : Quantity) (numbers : Four) → length (gasReply q s (gasAskOf numbers verdict)) ≤ replyRoom
 short-quantity Good b s q (AreFour a c h n) = short-of s (chargeIn (a ∷ c ∷ h ∷ [])) n q
 short-quantity (SheetRefused r) b s q (AreFour a c h n) = b
 short-quantity verdict b s q NotFour = lit≤ tt

@@ -18,7 +18,7 @@ use Rattle.fields.specs.declared.Four.the-variants.{Are, Not}
 use Rattle.refusal.specs.declared.Refusal.{Refusal}
 use Rattle.refusal.specs.Refusals.{Line, _when_, first}
 use Rattle.sheet.specs.Sheet.{Accepted}
-use Rattle.sheet.specs.Answers.{paper, judgeTold, sheetLines}
+use Rattle.sheet.specs.Answers.{paperSheet, judgeTold, sheetLines}
 use Rattle.sheet.specs.AnswersLaws.{stopped-by-sheet, accepted-of-told}
 use Rattle.sheet.specs.declared.SheetAnswer.{SheetAnswer}
 use Rattle.sheet.specs.declared.SheetAnswer.the-variants.{Good, Refused}
@@ -33,7 +33,7 @@ use Rattle.console.specs.declared.requests.Request.{Request}
 use Rattle.console.specs.declared.requests.Request.the-variants.{OfAir, Burn, OfGas, Walk, Mark, Unknown}
 use Rattle.console.specs.declared.requests.Quantity.{Quantity}
 use Rattle.console.specs.declared.requests.Quantity.the-variants.{Heat, Content, Specific, Temperature, Station}
-use Rattle.console.specs.Requests.{requestOf, askedOf, returnText}
+use Rattle.console.specs.Requests.{requestOf, gasAskOf, returnText}
 use Rattle.wording.specs.Texts.{refusalText, toldText, foundText, valueText, wholeText, numbersText}
 use Rattle.console.specs.Answers.{gasText, gasReply, replyText, answerFields, lineText, answerOf, judgedAfter, Judged, ofList, ofText, Ready}
 use Rattle.console.specs.Walks.{walkTold, walkText, startOf, walkOf, printedWalk}
@@ -48,13 +48,13 @@ judged-good s (ofText v) = go (v .read) (v .judged)
     go (Refused r) e = absurd (let z : _≡_ {A = ℕ} 0 1 = cc in omega arith)
 
 -- so what four numbers and a verdict come to is ready for the sheet
-pub ready : (s : List ℕ) (numbers : Four) (verdict : SheetAnswer) → Judged verdict s → Ready (askedOf numbers verdict) s
+pub ready : (s : List ℕ) (numbers : Four) (verdict : SheetAnswer) → Judged verdict s → Ready (gasAskOf numbers verdict) s
 ready s (Are a c h n) Good j = judged-good s j
 ready s (Are a c h n) (Refused r) j = tt
 ready s Not verdict j = tt
 
 -- a list that is refused is refused by every call
-module _ (s : List ℕ) (r : Refusal) (e : paper (Refused r) ≡ judgeTold s) where
+module _ (s : List ℕ) (r : Refusal) (e : paperSheet (Refused r) ≡ judgeTold s) where
   refusal-is : {A : Type 0} (values : A → List ℕ) (ls : List Line) (a : A) → refusalText r ≡ toldText values (first (sheetLines s ++ ls) a)
   refusal-is values ls a = sym (ap (toldText values) (stopped-by-sheet s r ls a e))
 
@@ -76,7 +76,7 @@ module _ (s : List ℕ) (r : Refusal) (e : paper (Refused r) ≡ judgeTold s) wh
     walk-refused numbers =
         sym (stopped-by-sheet s r (startLines document01 ch n (length numbers) mostSteps mostSteps mostLooks) (run document01 s (startState ch n) (stepsOf (length numbers / stepNumbers) numbers)) e)
 
-  asked-refused : (q : Quantity) (numbers : Four) → gasReply q s (askedOf numbers (Refused r)) ≡ gasReply q s (askedOf numbers Good)
+  asked-refused : (q : Quantity) (numbers : Four) → gasReply q s (gasAskOf numbers (Refused r)) ≡ gasReply q s (gasAskOf numbers Good)
   asked-refused q (Are a c h n) = gas-refused (chargeIn (a ∷ c ∷ h ∷ [])) n q
   asked-refused q Not = refl
 
@@ -97,13 +97,13 @@ module _ (s : List ℕ) (r : Refusal) (e : paper (Refused r) ≡ judgeTold s) wh
   fields-refused (w ∷ fs) = reply-refused (requestOf w) fs
 
 -- so a verdict given once answers as the calls would that judge the list themselves
-pub judged-once : (s line : List ℕ) (verdict : SheetAnswer) → paper verdict ≡ judgeTold s → answerOf verdict s line ≡ answerOf Good s line
+pub judged-once : (s line : List ℕ) (verdict : SheetAnswer) → paperSheet verdict ≡ judgeTold s → answerOf verdict s line ≡ answerOf Good s line
 unfolding answerOf lineText
 judged-once s line Good e = refl
 judged-once s line (Refused r) e = ap (λ (t : List ℕ). cond (holdsReturn line) returnText t ++ (10 ∷ [])) (fields-refused s r e (fieldsOf line))
 
 -- and prints the walk that they would
-pub printed-once : (s : List ℕ) (ch : Charge) (mk : ℤ) (numbers : List ℤ) (verdict : SheetAnswer) → paper verdict ≡ judgeTold s
+pub printed-once : (s : List ℕ) (ch : Charge) (mk : ℤ) (numbers : List ℤ) (verdict : SheetAnswer) → paperSheet verdict ≡ judgeTold s
     → printedWalk (walkTold verdict s ch mk numbers) ≡ printedWalk (walkTold Good s ch mk numbers)
 printed-once s ch mk numbers Good e = refl
 printed-once s ch mk numbers (Refused r) e = ap printedWalk (walk-refused s r e ch mk numbers)

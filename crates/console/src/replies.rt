@@ -1,9 +1,9 @@
 // The reply to each request: its numbers read, the call of the layer below, its answer put. Each function is one definition of specs/Answers.antt.
 use crate::marks;
 use crate::requests;
-use crate::requests::Asked;
+use crate::requests::AirAsk;
+use crate::requests::GasAsk;
 use crate::requests::Quantity;
-use crate::requests::Reading;
 use crate::requests::Request;
 use crate::walks;
 use air::Millikelvin;
@@ -47,7 +47,7 @@ pub(crate) fn put_no_number(out: &mut [u8], at: usize) -> usize
 // The temperature of a psi, asked with eleven places for looks.
 fn ask_psi(target: i64, psis: &[u32; rows::ROWS], out: &mut [u8], at: usize) -> usize
     requires { ⌜ now psis ≡ rowsPsi ⌝ }
-    ensures { λ r. ⌜ Put (airText Reading.Temperature target) (now (out .entry)) at r (now (out .exit)) ⌝ }
+    ensures { λ r. ⌜ Put (airText AirAsk.Temperature target) (now (out .entry)) at r (now (out .exit)) ⌝ }
 {
     let mut looks = [0u32; air::LOOK_PLACES];
     let answer = air::inner::psi_inverse_lent(target, &mut looks, psis);
@@ -56,7 +56,7 @@ fn ask_psi(target: i64, psis: &[u32; rows::ROWS], out: &mut [u8], at: usize) -> 
 
 // The reading of air at a number: mK, kelvins or a psi.
 fn tell_air(
-    reading: Reading,
+    reading: AirAsk,
     number: i64,
     air: &[u32; rows::ROWS],
     psis: &[u32; rows::ROWS],
@@ -68,20 +68,20 @@ fn tell_air(
     ensures { λ r. ⌜ Put (airText reading number) (now (out .entry)) at r (now (out .exit)) ⌝ }
 {
     match reading {
-        Reading::Heat => {
+        AirAsk::Heat => {
             wording::put_reading(air::inner::heat_lent(Millikelvin(number), air), out, at)
         }
-        Reading::Psi => {
+        AirAsk::Psi => {
             wording::put_reading(air::inner::psi_lent(Millikelvin(number), psis), out, at)
         }
-        Reading::Cp => wording::put_reading(air::inner::cp_lent(number, cps), out, at),
-        Reading::Temperature => ask_psi(number, psis, out, at),
+        AirAsk::Cp => wording::put_reading(air::inner::cp_lent(number, cps), out, at),
+        AirAsk::Temperature => ask_psi(number, psis, out, at),
     }
 }
 
 // air-heat mK, air-psi mK, air-cp K, air-temperature psi
 fn reply_air(
-    reading: Reading,
+    reading: AirAsk,
     number: Whole,
     air: &[u32; rows::ROWS],
     psis: &[u32; rows::ROWS],
@@ -173,7 +173,7 @@ fn tell_gas(
 // gas-heat, content, specific-content and station A c h mK, temperature A c h target
 fn reply_gas(
     quantity: Quantity,
-    asked: Asked,
+    asked: GasAsk,
     sheet: &[u32],
     air: &[u32; rows::ROWS],
     out: &mut [u8],
@@ -183,9 +183,9 @@ fn reply_gas(
     ensures { λ r. ⌜ Put (gasReply quantity (now (sheet .entry)) asked) (now (out .entry)) at r (now (out .exit)) ⌝ }
 {
     match asked {
-        Asked::Of(charge, number) => tell_gas(quantity, charge, number, sheet, air, out, at),
-        Asked::Refused(refusal) => wording::put_refusal(refusal, out, at),
-        Asked::Misfit => put_misfit(out, at),
+        GasAsk::Of(charge, number) => tell_gas(quantity, charge, number, sheet, air, out, at),
+        GasAsk::Refused(refusal) => wording::put_refusal(refusal, out, at),
+        GasAsk::Misfit => put_misfit(out, at),
     }
 }
 
@@ -212,7 +212,7 @@ pub(crate) fn reply(
         }
         Request::Burn => reply_burn(fields::read_three(line, from), out, at),
         Request::OfGas(quantity) => {
-            let asked = requests::asked_of(fields::read_four(line, from), verdict);
+            let asked = requests::gas_ask_of(fields::read_four(line, from), verdict);
             reply_gas(quantity, asked, sheet, air, out, at)
         }
         Request::Walk => walks::reply_walk(line, from, verdict, sheet, air, out, at),

@@ -4,11 +4,11 @@ use gas::Charge;
 use refusal::Refusal;
 use sheet::SheetAnswer;
 ghost use mathlib.Core.Path.{_≡_};
-ghost use Rattle.console.specs.Requests.{requestOf, gasRequest, otherRequest, askedOf};
+ghost use Rattle.console.specs.Requests.{requestOf, gasRequest, otherRequest, gasAskOf};
 
 // What a line asks for.
 pub enum Request {
-    OfAir(Reading),
+    OfAir(AirAsk),
     Burn,
     OfGas(Quantity),
     Walk,
@@ -17,7 +17,7 @@ pub enum Request {
 }
 
 // What is asked of air, by one number.
-pub enum Reading {
+pub enum AirAsk {
     Heat,
     Psi,
     Cp,
@@ -38,16 +38,16 @@ pub(crate) fn request_of(word: &[u8]) -> Request
     ensures { λ r. ⌜ r ≡ requestOf (now (word .entry)) ⌝ }
 {
     if check::same(word, b"air-heat") {
-        return Request::OfAir(Reading::Heat);
+        return Request::OfAir(AirAsk::Heat);
     }
     if check::same(word, b"air-psi") {
-        return Request::OfAir(Reading::Psi);
+        return Request::OfAir(AirAsk::Psi);
     }
     if check::same(word, b"air-cp") {
-        return Request::OfAir(Reading::Cp);
+        return Request::OfAir(AirAsk::Cp);
     }
     if check::same(word, b"air-temperature") {
-        return Request::OfAir(Reading::Temperature);
+        return Request::OfAir(AirAsk::Temperature);
     }
     gas_request(word)
 }
@@ -91,23 +91,23 @@ fn other_request(word: &[u8]) -> Request
 }
 
 // A charge with a fourth number, to be asked of a sheet that was judged; the refusal that the sheet was given when it was read; or fields of another form.
-pub enum Asked {
+pub enum GasAsk {
     Of(Charge, i64),
     Refused(Refusal),
     Misfit,
 }
 
 // What four numbers and the sheet's verdict come to.
-pub(crate) fn asked_of(numbers: Four, verdict: SheetAnswer) -> Asked
-    ensures { λ r. ⌜ r ≡ askedOf numbers verdict ⌝ }
+pub(crate) fn gas_ask_of(numbers: Four, verdict: SheetAnswer) -> GasAsk
+    ensures { λ r. ⌜ r ≡ gasAskOf numbers verdict ⌝ }
 {
     match numbers {
         Four::Are(air, carbon, hydrogen, number) => match verdict {
             SheetAnswer::Good => {
-                Asked::Of(gas::inner::charge_in(&[air, carbon, hydrogen]), number)
+                GasAsk::Of(gas::inner::charge_in(&[air, carbon, hydrogen]), number)
             }
-            SheetAnswer::Refused(refusal) => Asked::Refused(refusal),
+            SheetAnswer::Refused(refusal) => GasAsk::Refused(refusal),
         },
-        Four::Not => Asked::Misfit,
+        Four::Not => GasAsk::Misfit,
     }
 }

@@ -7,7 +7,7 @@ use lib.Dec.{leb, eqb}
 use lib.ListN.{length, drop, getD}
 use lib.Seq.{sets}
 use lib.IntN.{ℤ, pos}
-use Rattle.text.specs.Reading.{wholeOf}
+use Rattle.text.specs.Wholes.{wholeOf}
 use Rattle.text.specs.declared.Whole.{Whole}
 use Rattle.text.specs.declared.Whole.the-variants.{Is, Not}
 use Rattle.fields.specs.declared.Numbers.{Numbers}

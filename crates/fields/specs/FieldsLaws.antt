@@ -10,7 +10,7 @@ use lib.Dec.{ltb, leb, eqb}
 use lib.ListN.{length, take, drop, getD, set, length-drop}
 use lib.Seq.{sets, sets-eq, drop-cons, drop-drop}
 use lib.IntN.{ℤ}
-use Rattle.text.specs.Reading.{wholeOf}
+use Rattle.text.specs.Wholes.{wholeOf}
 use Rattle.text.specs.declared.Whole.{Whole}
 use Rattle.text.specs.declared.Whole.the-variants.{Is, Not}
 use Rattle.fields.specs.Fields.{spanOf, onHead, fieldsOf, fieldsFrom, holdsReturn, valueOf, valuesOf, countNext, countAll, leadingNext, leadingOf, Stored, heldOf, isCount}

@@ -9,7 +9,7 @@ use lib.ListN.{length}
 use Rattle.signed.specs.Zed.{up, outside}
 use Rattle.refusal.specs.Refusals.{Told, gives, refused, Line, _when_, first}
 use Rattle.air.specs.Limits.{lookPlaces, coldest, hottest}
-use Rattle.air.specs.Inverse.{looks, unreached, Found, found, written}
+use Rattle.air.specs.Inverted.{looks, unreached, Found, found, written}
 use Rattle.sheet.specs.Answers.{sheetLines}
 use Rattle.gas.specs.declared.Charge.{Charge}
 use Rattle.gas.specs.declared.Products.{Products}
@@ -87,10 +87,10 @@ abbrev pub temperatureTold : Weights → Charge → ℤ → List ℕ → ℕ →
 temperatureTold w ch target s places = inverseTold (searchOrder w ch s places) (gasHeat w s (gasOf ch)) target
 
 -- what such a call tells, and the lent list of looks after it
-pub record Inverse (lines : List Line) (v : ℕ → ℤ) (target : ℤ) (before : List ℕ) (r : TemperatureAnswer) (after : List ℕ) : Type 0 where
+pub record Inverted (lines : List Line) (v : ℕ → ℤ) (target : ℤ) (before : List ℕ) (r : TemperatureAnswer) (after : List ℕ) : Type 0 where
   pub told : paperTemperature r ≡ inverseTold lines v target
   pub list : after ≡ written (inverseTold lines v target) (looks v target) before
 
 -- the whole of the temperature of a heat: it tells `temperatureTold`
 abbrev pub Temperature : Weights → Charge → ℤ → List ℕ → List ℕ → TemperatureAnswer → List ℕ → Type 0
-Temperature w ch target s before = Inverse (searchOrder w ch s (length before)) (gasHeat w s (gasOf ch)) target before
+Temperature w ch target s before = Inverted (searchOrder w ch s (length before)) (gasHeat w s (gasOf ch)) target before

@@ -12,7 +12,7 @@ use Rattle.refusal.specs.declared.Refusal.the-variants.{Plain}
 use Rattle.refusal.specs.Refusals.{Told, gives, refused, Line, _when_, toldBy, first, First, Clear, none, clear}
 use Rattle.refusal.specs.RefusalsLaws.{refusal-given, values-given}
 use Rattle.air.specs.Limits.{lookPlaces, coldest, hottest}
-use Rattle.air.specs.Inverse.{unreached, found}
+use Rattle.air.specs.Inverted.{unreached, found}
 use Rattle.sheet.specs.Sheet.{Accepted}
 use Rattle.sheet.specs.Answers.{sheetLines}
 use Rattle.sheet.specs.AnswersLaws.{accepted-of-told, past-sheet}
@@ -22,8 +22,8 @@ use Rattle.gas.specs.declared.TemperatureAnswer.{TemperatureAnswer}
 use Rattle.gas.specs.declared.TemperatureAnswer.the-variants.{Refused}
 use Rattle.gas.specs.Burning.{Weights, gasOf, Burns}
 use Rattle.gas.specs.BurningLaws.{burns-of}
-use Rattle.gas.specs.Answers.{paperTemperature, chargeLines, temperatureLines, heatOrder, searchOrder, Inverse}
-use Rattle.refusal.specs.OrdersLaws.{stopped, passed, clear-order, clear-left, clear-right, given}
+use Rattle.gas.specs.Answers.{paperTemperature, chargeLines, temperatureLines, heatOrder, searchOrder, Inverted}
+use Rattle.refusal.specs.OrdersLaws.{stopped-first, passed, clear-order, clear-left, clear-right, given}
 use Rattle.gas.specs.inner.Search.{Searched}
 
 -- ---- a sheet, a charge and a temperature that are not refused
@@ -81,25 +81,25 @@ module _ {s : List ℕ} (accepted : Accepted s) (w : Weights) (ch : Charge) wher
 -- ---- the temperature of a heat
 module _ (v : ℕ → ℤ) (target : ℤ) (before : List ℕ) where
   -- 8 or 9: nothing is written
-  pub unreached-told : (r : TemperatureAnswer) {l : Line} → First (unreached v target) l → paperTemperature r ≡ toldBy l → Inverse [] v target before r before
+  pub unreached-told : (r : TemperatureAnswer) {l : Line} → First (unreached v target) l → paperTemperature r ≡ toldBy l → Inverted [] v target before r before
   unreached-told r f e =
       let g = refusal-given (found v target) f in
       record { told = e ∙ sym g; list = rw g refl }
 
   -- a target that is reached
-  pub reached-told : {r : TemperatureAnswer} {after : List ℕ} → Clear (unreached v target) → Searched v target before r after → Inverse [] v target before r after
+  pub reached-told : {r : TemperatureAnswer} {after : List ℕ} → Clear (unreached v target) → Searched v target before r after → Inverted [] v target before r after
   reached-told c h =
       let g = values-given (found v target) c in
       record { told = ap paperTemperature (h .answer) ∙ sym g; list = rw g (h .list) }
 
   module _ {A : Type 0} (lines : List Line) (a : A) where
     -- a refusal of the lines before: nothing is written
-    pub stopped-told : (r : Refusal) → refused r ≡ first lines a → Inverse lines v target before (Refused r) before
+    pub stopped-told : (r : Refusal) → refused r ≡ first lines a → Inverted lines v target before (Refused r) before
     stopped-told r e = record {
-      told = stopped lines (unreached v target) a (found v target) r e;
-      list = rw (← stopped lines (unreached v target) a (found v target) r e) refl;
+      told = stopped-first lines (unreached v target) a (found v target) r e;
+      list = rw (← stopped-first lines (unreached v target) a (found v target) r e) refl;
     }
 
     -- past those lines
-    pub passed-told : {x : A} {r : TemperatureAnswer} {after : List ℕ} → gives x ≡ first lines a → Inverse [] v target before r after → Inverse lines v target before r after
+    pub passed-told : {x : A} {r : TemperatureAnswer} {after : List ℕ} → gives x ≡ first lines a → Inverted [] v target before r after → Inverted lines v target before r after
     passed-told e h = let p = passed lines (unreached v target) a (found v target) e in record { told = h .told ∙ sym p; list = rw p (h .list) }

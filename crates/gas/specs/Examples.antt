@@ -14,7 +14,7 @@ use Rattle.air.specs.Readings.{reading, between, airHeat}
 use Rattle.air.specs.Halving.{halvings, halving}
 use Rattle.air.specs.Inverse.{looks, unreached, Found, found}
 use Rattle.air.specs.InverseLaws.{temperature-is, rest-is}
-use Rattle.air.specs.Answers.{heatTold as airHeatTold, psiTold}
+use Rattle.air.specs.Answers.{airHeatTold, psiTold}
 use Rattle.air.specs.Examples.{P1, P2, P3}
 use Rattle.sheet.specs.Sheet.{o2, co2, h2o, rise, Accepted}
 use Rattle.sheet.specs.AnswersLaws.{past-sheet}

@@ -24,7 +24,7 @@ ghost use Rattle.air.specs.Limits.{lookPlaces, coldest, hottest};
 ghost use Rattle.sheet.specs.Sheet.{Accepted};
 ghost use Rattle.gas.specs.Burning.{document01, chargeIn, gasOf, beyond as Burning·beyond, Limits, lean as Burning·lean, Burns, fuelMass, totalMass};
 ghost use Rattle.gas.specs.Heat.{gasHeat, contentAbove15, specificContent};
-ghost use Rattle.gas.specs.Answers.{paperGas, paperHeat, paperSpecific, chargeLines, temperatureLines, heatTold, contentTold, specificTold, Inverse, Temperature};
+ghost use Rattle.gas.specs.Answers.{paperGas, paperHeat, paperSpecific, chargeLines, temperatureLines, heatTold, contentTold, specificTold, Inverted, Temperature};
 
 // A charge that burns lean within its limits, or the refusal.
 pub enum Admitted {
@@ -159,7 +159,7 @@ pub fn find(
     air: &[u32; rows::ROWS],
 ) -> TemperatureAnswer
     requires { ⌜ Burns document01 gas × Accepted (now sheet) × (now air ≡ rowsH) × (lookPlaces ≤ length (now looks)) ⌝ }
-    ensures { λ r. ⌜ Inverse [] (gasHeat document01 (now (sheet .entry)) gas) (target .0) (now (looks .entry)) r (now (looks .exit)) ⌝ }
+    ensures { λ r. ⌜ Inverted [] (gasHeat document01 (now (sheet .entry)) gas) (target .0) (now (looks .entry)) r (now (looks .exit)) ⌝ }
 {
     let masses = burning::weigh(gas);
     let first = heats::at_kelvin(masses, rows::FIRST_KELVIN, sheet, air);

@@ -9,21 +9,21 @@ use mir.Syntax.{w64}
 use mir.Val.{SFits}
 use Rattle.signed.specs.Zed.{up, dn, In, in-range, is-self, is-neg, is-add, is-minus, fits-from, le-by, is-pos, apart, zed}
 use Rattle.refusal.specs.BoolLaws.{both-hold}
-use Rattle.marking.specs.Marking.{keyInRange, windowInRange, outside}
+use Rattle.marking.specs.Marking.{keyInRange, windowInRange, outOfRange}
 use Rattle.marking.specs.Exact.{turned}
 
 -- ---- refusal 12 by its two tests
 module _ (key window : ℤ) where
-  pub window-outside : windowInRange window ≡ false → outside key window ≡ true
-  unfolding outside
+  pub window-outside : windowInRange window ≡ false → outOfRange key window ≡ true
+  unfolding outOfRange
   window-outside e = rw e refl
 
-  pub key-outside : keyInRange key ≡ false → outside key window ≡ true
-  unfolding outside
+  pub key-outside : keyInRange key ≡ false → outOfRange key window ≡ true
+  unfolding outOfRange
   key-outside e = rw e (or-true (not (windowInRange window)))
 
-  pub both-inside : keyInRange key ≡ true → windowInRange window ≡ true → outside key window ≡ false
-  unfolding outside
+  pub both-inside : keyInRange key ≡ true → windowInRange window ≡ true → outOfRange key window ≡ false
+  unfolding outOfRange
   both-inside e f = rw (e, f) refl
 
 -- what it leaves
@@ -31,8 +31,8 @@ pub record Ranged (key window : ℤ) : Type 0 where
   pub key-in : In (negℤ (pos 1000000000000)) (pos 1000000000000) key
   pub window-in : In (pos 0) (pos 100000) window
 
-pub ranged : (key window : ℤ) → outside key window ≡ false → Ranged key window
-unfolding outside
+pub ranged : (key window : ℤ) → outOfRange key window ≡ false → Ranged key window
+unfolding outOfRange
 ranged key window e =
     let h = both-hold (windowInRange window) (keyInRange key) e in
     record { key-in = in-range _ _ key (h .1); window-in = in-range _ _ window (h .0) }

@@ -11,10 +11,10 @@ use Rattle.gas.specs.Answers.{heatOrder}
 use Rattle.marking.specs.declared.Typed.{Typed}
 use Rattle.marking.specs.declared.MarkAnswer.{MarkAnswer}
 use Rattle.marking.specs.declared.StationAnswer.{StationAnswer}
-use Rattle.marking.specs.Marking.{counts, order, marked, paper}
+use Rattle.marking.specs.Marking.{counts, order, marked, paperMark}
 use Rattle.marking.specs.Figures.{figuresOf, stationSpecific, stationMass, stationTold, paperStation}
 
-pub demand-1-mark : (typed : Typed) (key window : ℤ) (r : MarkAnswer) → paper r ≡ marked typed key window → Demand1 (order typed key window) (counts typed key window) (paper r)
+pub demand-1-mark : (typed : Typed) (key window : ℤ) (r : MarkAnswer) → paperMark r ≡ marked typed key window → Demand1 (order typed key window) (counts typed key window) (paperMark r)
 demand-1-mark typed key window r e = demand-1 _ _ e
 
 pub demand-1-station : (ch : Charge) (mk : ℤ) (s : List ℕ) (r : StationAnswer) → paperStation r ≡ stationTold ch mk s

@@ -48,8 +48,8 @@ abbrev pub windowInRange : ℤ → Bool
 windowInRange window = inZ (pos 0) (pos 100000) window
 
 -- refusal 12, "window or key outside range"
-unfoldable pub outside : ℤ → ℤ → Bool
-outside key window = not (windowInRange window) || not (keyInRange key)
+unfoldable pub outOfRange : ℤ → ℤ → Bool
+outOfRange key window = not (windowInRange window) || not (keyInRange key)
 
 -- refusal 11, "answer blank, infinite or not a number"
 abbrev pub noNumber : Typed → Bool
@@ -59,14 +59,14 @@ noNumber Blank = true
 
 -- "Marking: 12, 11"
 abbrev pub order : Typed → ℤ → ℤ → List Line
-order typed key window = 12 when outside key window ∷ 11 when noNumber typed ∷ []
+order typed key window = 12 when outOfRange key window ∷ 11 when noNumber typed ∷ []
 
 -- what the mark of a typed answer tells: the first refusal of the order that holds, else whether the answer counts
 abbrev pub marked : Typed → ℤ → ℤ → Told Bool
 marked typed key window = first (order typed key window) (counts typed key window)
 
 -- each case of a mark: whether the answer counts, or the refusal's number
-abbrev pub paper : MarkAnswer → Told Bool
-paper Counts = gives true
-paper Misses = gives false
-paper (Refused r) = refused r
+abbrev pub paperMark : MarkAnswer → Told Bool
+paperMark Counts = gives true
+paperMark Misses = gives false
+paperMark (Refused r) = refused r

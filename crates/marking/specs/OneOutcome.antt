@@ -8,7 +8,7 @@ use lib.Ieee.{Float, binary64, sub}
 use Rattle.refusal.specs.Refusals.{Told, gives, refused}
 use Rattle.refusal.specs.RefusalsLaws.{one-told}
 use Rattle.gas.specs.declared.Charge.{Charge}
-use Rattle.marking.specs.Marking.{marked, paper}
+use Rattle.marking.specs.Marking.{marked, paperMark}
 use Rattle.marking.specs.Figures.{stationTold, paperStation}
 use Rattle.marking.specs.declared.StationFigure.{StationFigure}
 use Rattle.marking.specs.declared.StationAnswer.{StationAnswer}
@@ -23,15 +23,15 @@ markOf (gives true) = Counts
 markOf (gives false) = Misses
 markOf (refused r) = Refused r
 
-mark-back : (r : MarkAnswer) → markOf (paper r) ≡ r
+mark-back : (r : MarkAnswer) → markOf (paperMark r) ≡ r
 unfolding markOf
 mark-back Counts = refl
 mark-back Misses = refl
 mark-back (Refused r) = refl
 
 -- no two marks satisfy the promise
-pub one-mark : (typed : Typed) (key window : ℤ) (r s : MarkAnswer) → paper r ≡ marked typed key window → paper s ≡ marked typed key window → r ≡ s
-one-mark typed key window = one-told paper markOf mark-back
+pub one-mark : (typed : Typed) (key window : ℤ) (r s : MarkAnswer) → paperMark r ≡ marked typed key window → paperMark s ≡ marked typed key window → r ≡ s
+one-mark typed key window = one-told paperMark markOf mark-back
 
 -- the station's answer that is told so
 stationAnswer : Told StationFigure → StationAnswer

@@ -19,7 +19,7 @@ ghost use lib.IntN.{natAbs};
 ghost use lib.Ieee.{binary64, sub};
 ghost use lib.Ieee.Scale.{finite};
 ghost use Rattle.refusal.specs.Refusals.{first, _when_};
-ghost use Rattle.marking.specs.Marking.{paper, marked, near, outside};
+ghost use Rattle.marking.specs.Marking.{paperMark, marked, near, outOfRange};
 ghost use Rattle.marking.specs.Figures.{figuresOf, paperStation, stationTold};
 
 const KEY_LIMIT: i64 = 1_000_000_000_000;
@@ -46,7 +46,7 @@ pub enum MarkAnswer {
 
 // The mark of a typed answer against a key and a window.
 pub fn mark(typed: Typed, key: i64, window: i64) -> MarkAnswer
-    ensures { λ r. ⌜ paper r ≡ marked typed key window ⌝ }
+    ensures { λ r. ⌜ paperMark r ≡ marked typed key window ⌝ }
 {
     if !signed::inside(key, -KEY_LIMIT, KEY_LIMIT) {
         return MarkAnswer::Refused(Refusal::Plain(OUT_OF_RANGE));
@@ -63,8 +63,8 @@ pub fn mark(typed: Typed, key: i64, window: i64) -> MarkAnswer
 
 // The mark of a number at a scale, for a key and a window in range.
 fn mark_number(scale: u64, x: f64, key: i64, window: i64) -> MarkAnswer
-    requires { ⌜ 0 < scale ⌝ ∗ ⌜ scale ≤ 100000 ⌝ ∗ ⌜ outside key window ≡ false ⌝ }
-    ensures { λ r. ⌜ paper r ≡ first (11 when not (finite x) ∷ []) (near scale x key window) ⌝ }
+    requires { ⌜ 0 < scale ⌝ ∗ ⌜ scale ≤ 100000 ⌝ ∗ ⌜ outOfRange key window ≡ false ⌝ }
+    ensures { λ r. ⌜ paperMark r ≡ first (11 when not (finite x) ∷ []) (near scale x key window) ⌝ }
 {
     if x != x {
         return MarkAnswer::Refused(Refusal::Plain(NO_NUMBER));

@@ -17,8 +17,8 @@ in-parts ls ms a b = one-order ls a (λ x. first ms b) ms b refl
 
 module _ {A B : Type 0} (ls ms : List Line) (a : A) (b : B) where
   -- a refusal of the first part is the answer
-  pub stopped : (r : Refusal) → refused r ≡ first ls a → refused r ≡ first (ls ++ ms) b
-  stopped r e = sym (in-parts ls ms a b ∙ ap (λ (t : Told A). andThen t (λ x. first ms b)) (sym e))
+  pub stopped-first : (r : Refusal) → refused r ≡ first ls a → refused r ≡ first (ls ++ ms) b
+  stopped-first r e = sym (in-parts ls ms a b ∙ ap (λ (t : Told A). andThen t (λ x. first ms b)) (sym e))
 
   -- and where it gives its values, the second part decides
   pub passed : {x : A} → gives x ≡ first ls a → first (ls ++ ms) b ≡ first ms b

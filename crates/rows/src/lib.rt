@@ -15,7 +15,8 @@ pub const LAST_KELVIN: u64 = 2000;
 
 pub const ROWS: usize = (LAST_KELVIN - FIRST_KELVIN + 1) as usize;
 
-fn wide(x: u32) -> u64
+// The number in 64 bits.
+pub fn wide(x: u32) -> u64
     ensures { λ r. ⌜ (r ≡ x) × (r < 4294967296) ⌝ }
 {
     x as u64

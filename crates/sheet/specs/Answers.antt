@@ -9,17 +9,17 @@ use Rattle.refusal.specs.Refusals.{Told, gives, refused, Line, _when_, _at-plac
 use Rattle.rows.specs.Limits.{tableRows}
 use Rattle.sheet.specs.declared.SheetAnswer.{SheetAnswer}
 use Rattle.sheet.specs.declared.SheetAnswer.the-variants.{Good, Refused}
-use Rattle.sheet.specs.Text.{Sheet, FirstBad}
-use Rattle.sheet.specs.Sheet.{notLong, firstBadRow}
+use Rattle.sheet.specs.Text.{IsSheet, FirstBad}
+use Rattle.sheet.specs.IsSheet.{notLong, firstBadRow}
 
 -- an answer as the paper has it: good, with no value of its own, or the refusal
-abbrev pub paper : SheetAnswer → Told (Unit {0})
-paper Good = gives tt
-paper (Refused r) = refused r
+abbrev pub paperSheet : SheetAnswer → Told (Unit {0})
+paperSheet Good = gives tt
+paperSheet (Refused r) = refused r
 
 -- a text held against the form: the sheet of its numbers, or none, with its first bad row
 pub data Form (text : List ℕ) : Type 0 where
-  sheetOf : (numbers : List ℕ) → Sheet text numbers → Form text
+  sheetOf : (numbers : List ℕ) → IsSheet text numbers → Form text
   noSheet : (row : ℕ) → FirstBad text row → Form text
 
 -- sheet text breaks its form
@@ -49,7 +49,7 @@ listAfter (Refused r) numbers before = before
 -- the whole of a reading. Every text has one form, and no two (FormLaws.antt)
 pub record SheetRead (text before : List ℕ) (answer : SheetAnswer) (later : List ℕ) : Type 0 where
   pub form : Form text
-  pub told : paper answer ≡ readTold before form
+  pub told : paperSheet answer ≡ readTold before form
   pub list : later ≡ listAfter answer (numbersOf form) before
 
 -- refusals 1 and 3, in the paper's order: the first lines of every call that takes a sheet list

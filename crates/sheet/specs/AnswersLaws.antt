@@ -10,15 +10,15 @@ use lib.Dec.{ltb, eqb}
 use lib.ListN.{length}
 use Rattle.refusal.specs.Refusals.{gives, refuses, refusesAt, refused, Line, _when_, _at-place_when_, first}
 use Rattle.refusal.specs.declared.Refusal.{Refusal}
-use Rattle.refusal.specs.OrdersLaws.{stopped}
+use Rattle.refusal.specs.OrdersLaws.{stopped-first}
 use Rattle.rows.specs.Limits.{tableRows}
 use Rattle.sheet.specs.Limits.{sheetNumbers}
 use Rattle.sheet.specs.declared.SheetAnswer.{SheetAnswer}
 use Rattle.sheet.specs.declared.SheetAnswer.the-variants.{Good, Refused}
-use Rattle.sheet.specs.Text.{sheetText, Numbers, Sheet}
+use Rattle.sheet.specs.Text.{sheetText, Numbers, IsSheet}
 use Rattle.sheet.specs.OneOutcome.{one-read_sheet}
-use Rattle.sheet.specs.Answers.{paper, Form, sheetOf, noSheet, breaks, badRowOf, numbersOf, SheetRead, sheetLines, judgeTold}
-use Rattle.sheet.specs.Sheet.{firstBadRow, Accepted}
+use Rattle.sheet.specs.Answers.{paperSheet, Form, sheetOf, noSheet, breaks, badRowOf, numbersOf, SheetRead, sheetLines, judgeTold}
+use Rattle.sheet.specs.IsSheet.{firstBadRow, Accepted}
 use Rattle.sheet.specs.SheetLaws.{no-bad-row, rows-before}
 
 -- ---- a text is read as a list exactly where it is the sheet of that list
@@ -26,10 +26,10 @@ pub read-of-sheet : {before later : List ℕ} {a : SheetAnswer} (numbers : List 
 read-of-sheet {before} numbers g n p =
     one-read_sheet p (record { form = sheetOf numbers (record { good = g; is = refl }); told = rw (eq-eqb (length before) sheetNumbers n) refl; list = refl })
 
-pub sheet-of-read : {text before later : List ℕ} → SheetRead text before Good later → (length before ≡ sheetNumbers) × Sheet text later
+pub sheet-of-read : {text before later : List ℕ} → SheetRead text before Good later → (length before ≡ sheetNumbers) × IsSheet text later
 sheet-of-read {text} {before} {later} p = go (eqb (length before) sheetNumbers) (p .form) refl (p .told) (p .list)
   where
-    go : (x : Bool) (f : Form text) → eqb (length before) sheetNumbers ≡ x → gives tt ≡ first (1 when not x ∷ 2 at-place badRowOf f when breaks f ∷ []) (tt {0}) → later ≡ numbersOf f → (length before ≡ sheetNumbers) × Sheet text later
+    go : (x : Bool) (f : Form text) → eqb (length before) sheetNumbers ≡ x → gives tt ≡ first (1 when not x ∷ 2 at-place badRowOf f when breaks f ∷ []) (tt {0}) → later ≡ numbersOf f → (length before ≡ sheetNumbers) × IsSheet text later
     go false f q e l = absurd (let z : _≡_ {A = ℕ} 0 1 = cc in omega arith)
     go true (noSheet r b) q e l = absurd (let z : _≡_ {A = ℕ} 0 1 = cc in omega arith)
     go true (sheetOf numbers h) q e l = (eqb-true _ _ q, rw l h)
@@ -60,5 +60,5 @@ accepted-of-told s e = go (eqb (length s) sheetNumbers) (ltb (firstBadRow s) tab
 pub past-sheet : {A : Type 0} {s : List ℕ} (ls : List Line) (a : A) → Accepted s → first (sheetLines s ++ ls) a ≡ first ls a
 past-sheet {s} ls a h = rw (eq-eqb (length s) sheetNumbers (h .long), no-bad-row s (h .noBadRow)) refl
 
-pub stopped-by-sheet : {A : Type 0} (s : List ℕ) (r : Refusal) (ls : List Line) (a : A) → paper (Refused r) ≡ judgeTold s → first (sheetLines s ++ ls) a ≡ refused r
-stopped-by-sheet s r ls a e = sym (stopped (sheetLines s) ls tt a r e)
+pub stopped-by-sheet : {A : Type 0} (s : List ℕ) (r : Refusal) (ls : List Line) (a : A) → paperSheet (Refused r) ≡ judgeTold s → first (sheetLines s ++ ls) a ≡ refused r
+stopped-by-sheet s r ls a e = sym (stopped-first (sheetLines s) ls tt a r e)

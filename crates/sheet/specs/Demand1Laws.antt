@@ -6,12 +6,12 @@ use Rattle.refusal.specs.Refusals.{_when_, _at-place_when_, Demand1}
 use Rattle.refusal.specs.RefusalsLaws.{demand-1}
 use Rattle.sheet.specs.declared.SheetAnswer.{SheetAnswer}
 use Rattle.sheet.specs.Sheet.{notLong}
-use Rattle.sheet.specs.Answers.{paper, breaks, badRowOf, SheetRead, sheetLines, judgeTold}
+use Rattle.sheet.specs.Answers.{paperSheet, breaks, badRowOf, SheetRead, sheetLines, judgeTold}
 
 -- the text's own form: whether it breaks its form, and its first bad row
 pub demand-1-read_sheet : {text before later : List ℕ} {a : SheetAnswer} (h : SheetRead text before a later)
-    → Demand1 (1 when notLong before ∷ 2 at-place badRowOf (h .form) when breaks (h .form) ∷ []) tt (paper a)
+    → Demand1 (1 when notLong before ∷ 2 at-place badRowOf (h .form) when breaks (h .form) ∷ []) tt (paperSheet a)
 demand-1-read_sheet h = demand-1 _ _ (h .told)
 
-pub demand-1-judge_sheet : (s : List ℕ) (a : SheetAnswer) → paper a ≡ judgeTold s → Demand1 (sheetLines s) tt (paper a)
+pub demand-1-judge_sheet : (s : List ℕ) (a : SheetAnswer) → paperSheet a ≡ judgeTold s → Demand1 (sheetLines s) tt (paperSheet a)
 demand-1-judge_sheet s a e = demand-1 _ _ e

@@ -57,7 +57,7 @@ module _ (gas : ℕ → ℕ → ℕ) (k : ℕ) (l : firstKelvin ≤ k) (u : k �
 
 -- ---- a row of it is good where the columns keep the limit, and the step rule from the row before
 pub record Steady (gas : ℕ → ℕ → ℕ) (k : ℕ) : Type 0 where
-  pub up : (j : ℕ) → j < 3 → gas j k ≤ gas j (suc k)
+  pub climbs : (j : ℕ) → j < 3 → gas j k ≤ gas j (suc k)
   pub slow : rise (gas 0) k ≤ 4 * rise airH k
 
 pub record Small (gas : ℕ → ℕ → ℕ) (k : ℕ) : Type 0 where
@@ -72,9 +72,9 @@ small-no gas k l u h = over-no (laid gas) k record {
 
 steady-no : (gas : ℕ → ℕ → ℕ) (k : ℕ) → firstKelvin ≤ k → k < lastKelvin → Steady gas k → breaksStep (laid gas) k ≡ false
 steady-no gas k l u h = step-kept (laid gas) k record {
-  o2-up = omega (arith, laid-o2 gas k l (omega arith), laid-o2 gas (suc k) (omega arith) u, h .up 0 (omega arith));
-  co2-up = omega (arith, laid-co2 gas k l (omega arith), laid-co2 gas (suc k) (omega arith) u, h .up 1 (omega arith));
-  h2o-up = omega (arith, laid-h2o gas k l (omega arith), laid-h2o gas (suc k) (omega arith) u, h .up 2 (omega arith));
+  o2-up = omega (arith, laid-o2 gas k l (omega arith), laid-o2 gas (suc k) (omega arith) u, h .climbs 0 (omega arith));
+  co2-up = omega (arith, laid-co2 gas k l (omega arith), laid-co2 gas (suc k) (omega arith) u, h .climbs 1 (omega arith));
+  h2o-up = omega (arith, laid-h2o gas k l (omega arith), laid-h2o gas (suc k) (omega arith) u, h .climbs 2 (omega arith));
   o2-rise = omega (arith, laid-o2 gas k l (omega arith), laid-o2 gas (suc k) (omega arith) u, h .slow);
 }
 
@@ -107,18 +107,18 @@ pub flat-accepted : (a b c : ℕ) → a ≤ mostFigure → b ≤ mostFigure → 
 flat-accepted a b c p q r =
     laid-accepted (level a b c)
     (λ k l u. record { most = λ j h. level-most a b c j k mostFigure p q r })
-    (λ k l u. record { up = λ j h. level-up a b c j k (suc k); slow = omega arith })
+    (λ k l u. record { climbs = λ j h. level-up a b c j k (suc k); slow = omega arith })
 
 -- ---- four times air
 air-from : (k : ℕ) → firstKelvin ≤ k → k ≤ lastKelvin → airH firstKelvin ≤ airH k
 air-from k l u = ⊎-elim (λ e. rw e (le-refl _)) (λ h. le-of-lt (grows _<_ (λ x y z. lt-trans) airH firstKelvin lastKelvin H-grows firstKelvin k (le-refl _) h u)) (eq-or-lt-of-le l)
 
 steepest-steady : (k : ℕ) → firstKelvin ≤ k → k < lastKelvin → Steady steepest k
-steepest-steady k l u = record { up = up; slow = omega (arith, air-from k l (omega arith), H-grows k l u) }
+steepest-steady k l u = record { climbs = climbs; slow = omega (arith, air-from k l (omega arith), H-grows k l u) }
   where
-    up : (j : ℕ) → j < 3 → steepest j k ≤ steepest j (suc k)
-    up zero h = omega (arith, H-grows k l u)
-    up (suc j) h = le-refl 0
+    climbs : (j : ℕ) → j < 3 → steepest j k ≤ steepest j (suc k)
+    climbs zero h = omega (arith, H-grows k l u)
+    climbs (suc j) h = le-refl 0
 
 steepest-small : (k : ℕ) → Small steepest k
 steepest-small k = record { most = most }
@@ -146,7 +146,7 @@ module _ (m : ℕ) (l : firstKelvin < m) (u : m ≤ lastKelvin) where
   steady-before k a b =
       let s = steepest-steady k a (omega arith) in
       record {
-        up = λ j h. rw (same-elsewhere j k (omega arith), same-elsewhere j (suc k) (omega arith)) (s .up j h);
+        climbs = λ j h. rw (same-elsewhere j k (omega arith), same-elsewhere j (suc k) (omega arith)) (s .climbs j h);
         slow = rw (same-elsewhere 0 k (omega arith), same-elsewhere 0 (suc k) (omega arith)) (s .slow);
       }
 

@@ -13,12 +13,12 @@ use Rattle.text.specs.Fold.{run}
 use Rattle.text.specs.FoldLaws.{run-append, Runs, and-then}
 use Rattle.text.specs.Decimal.{decimal}
 use Rattle.text.specs.DecimalLaws.{one-digit, last-digit, by-digits}
-use Rattle.text.specs.ReadingLaws.{spelled}
+use Rattle.text.specs.WholesLaws.{spelled}
 use Rattle.sheet.specs.Limits.{sheetNumbers}
 use Rattle.sheet.specs.declared.machine.Place.{Place}
 use Rattle.sheet.specs.declared.machine.State.{State}
 use Rattle.sheet.specs.declared.machine.State.the-variants.{Going, Bad}
-use Rattle.sheet.specs.Text.{rowText, rowsOf, sheetText, Numbers, Sheet, Begins, feeds, FirstBad, byte, short}
+use Rattle.sheet.specs.Text.{rowText, rowsOf, sheetText, Numbers, IsSheet, Begins, feeds, FirstBad, byte, short}
 use Rattle.sheet.specs.inner.Machine.{begins, start, takesDigit, withDigit, stepPlace, step, rowOf, wholeSheet, Filled, filled, fillByte}
 use Rattle.sheet.specs.MachineLaws.{place, rowStart, begins-some, begins-cases, begins-0, begins-1, begins-2, view, View, dies, digit, ends}
 use Rattle.sheet.specs.WholeLaws.{digit-step, number-run, kelvin-run, tab-0, tab-1, tab-2, feed-3, rows-run, complete}
@@ -140,7 +140,7 @@ bad-stays r [] = refl
 bad-stays r (b ∷ xs) = bad-stays r xs
 
 -- a good sheet's text is taken whole
-pub sheet-whole : (text s : List ℕ) → Sheet text s → run step start text ≡ rowStart tableRows
+pub sheet-whole : (text s : List ℕ) → IsSheet text s → run step start text ≡ rowStart tableRows
 sheet-whole text s h =
     ap (run step start) (h .is) ∙ (sym (same-state (sheetText s) start blank) ∙ ap (λ (x : Filled). x .state) (complete s blank (h .good) blank-full))
 

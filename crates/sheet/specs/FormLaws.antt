@@ -5,7 +5,7 @@ use mathlib.Core.List.{List}
 use Prim.Native.Nat.{ℕ}
 use native.Mathlib.Omega.{arith}
 use Rattle.text.specs.Fold.{run}
-use Rattle.sheet.specs.Text.{Sheet, FirstBad}
+use Rattle.sheet.specs.Text.{IsSheet, FirstBad}
 use Rattle.sheet.specs.Answers.{Form, sheetOf, noSheet, breaks, badRowOf, numbersOf}
 use Rattle.sheet.specs.inner.Machine.{start, step, rowOf, wholeSheet, Filled, filled, fillByte}
 use Rattle.sheet.specs.WholeLaws.{complete}
@@ -27,10 +27,10 @@ pub record Same {text : List ℕ} (f g : Form text) : Type 0 where
   pub numbers-same : numbersOf f ≡ numbersOf g
 
 -- the numbers of a sheet's text are what the machine reads
-numbers-read : (text s : List ℕ) → Sheet text s → run fillByte (filled start blank) text .list ≡ s
+numbers-read : (text s : List ℕ) → IsSheet text s → run fillByte (filled start blank) text .list ≡ s
 numbers-read text s h = ap (λ (t : List ℕ). run fillByte (filled start blank) t .list) (h .is) ∙ ap (λ (x : Filled). x .list) (complete s blank (h .good) blank-full)
 
-never : {A : Type 0} (text s : List ℕ) (r : ℕ) → Sheet text s → FirstBad text r → A
+never : {A : Type 0} (text s : List ℕ) (r : ℕ) → IsSheet text s → FirstBad text r → A
 never text s r h b =
     let t : wholeSheet (run step start text) ≡ true = ap wholeSheet (sheet-whole text s h) in
     let f : wholeSheet (run step start text) ≡ false = bad-row-is text r b .0 in

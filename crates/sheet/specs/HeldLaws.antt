@@ -12,13 +12,13 @@ use borrow.Author.Tests.{eqb-true, eqb-false, ltb-true, ltb-false, lt-ltb, le-lt
 use Rattle.rows.specs.Limits.{firstKelvin, tableRows}
 use Rattle.text.specs.Fold.{run}
 use Rattle.text.specs.Decimal.{decimal}
-use Rattle.text.specs.Reading.{mayFollow}
-use Rattle.text.specs.ReadingLaws.{grown, spelled, follow-some, and-left, and-right}
+use Rattle.text.specs.Wholes.{mayFollow}
+use Rattle.text.specs.WholesLaws.{grown, spelled, follow-some, and-left, and-right}
 use Rattle.sheet.specs.Limits.{mostFigure, sheetNumbers}
 use Rattle.sheet.specs.declared.machine.Place.{Place}
 use Rattle.sheet.specs.declared.machine.State.{State}
 use Rattle.sheet.specs.declared.machine.State.the-variants.{Going, Bad}
-use Rattle.sheet.specs.Text.{rowText, rowsOf, sheetText, Numbers, Sheet}
+use Rattle.sheet.specs.Text.{rowText, rowsOf, sheetText, Numbers, IsSheet}
 use Rattle.sheet.specs.inner.Machine.{begins, start, takesDigit, withDigit, whole, closer, after, endsField, step, wholeSheet, endsRow, storedPlace, stored, filled, fillByte}
 use Rattle.sheet.specs.MachineLaws.{place, begins-some, stored-same, takes-bound, view, View, dies, digit, ends}
 
@@ -247,11 +247,11 @@ all-small n m e h i = go (ltb i n) refl
 good-of : (t : List ℕ) (p : Place) (m : List ℕ) → p .row ≡ tableRows → Held t p m → Numbers m
 good-of t p m e o = record { full = o .full; small = all-small sheetNumbers m (o .full) (λ i q. o .below i (omega arith)) }
 
-pub sound : (text l : List ℕ) → length l ≡ sheetNumbers → wholeSheet (run step start text) ≡ true → Sheet text (run fillByte (filled start l) text .list)
+pub sound : (text l : List ℕ) → length l ≡ sheetNumbers → wholeSheet (run step start text) ≡ true → IsSheet text (run fillByte (filled start l) text .list)
 unfolding sheetText
 sound text l h w = go (run step start text) (run fillByte (filled start l) text .list) w (held-text text l h)
   where
-    go : (s : State) (m : List ℕ) → wholeSheet s ≡ true → HeldBy text s m → Sheet text m
+    go : (s : State) (m : List ℕ) → wholeSheet s ≡ true → HeldBy text s m → IsSheet text m
     go (Bad r) m w o = let z : _≡_ {A = ℕ} 0 1 = cc in absurd (omega arith)
     go (Going p) m w o =
         let e : p .row ≡ tableRows = eqb-true _ _ w in

@@ -10,8 +10,8 @@ use lib.ListN.{length}
 use lib.Seq.{sets, length-sets}
 use borrow.Author.Tests.{eqb-true, ltb-true, ltb-false, lt-ltb, eq-eqb, ne-eqb, not-true}
 use Rattle.rows.specs.Limits.{firstKelvin, tableRows}
-use Rattle.text.specs.Reading.{isDigit, mayFollow}
-use Rattle.text.specs.ReadingLaws.{digit-range, follow-most, and-left, and-right}
+use Rattle.text.specs.Wholes.{isDigit, mayFollow}
+use Rattle.text.specs.WholesLaws.{digit-range, follow-most, and-left, and-right}
 use Rattle.refusal.specs.Refusals.{first}
 use Rattle.sheet.specs.Limits.{mostFigure}
 use Rattle.sheet.specs.declared.machine.Place.{Place}

@@ -5,7 +5,7 @@ use Prim.Native.Nat.{ℕ}
 use Rattle.refusal.specs.Refusals.{Told, gives, refused}
 use Rattle.sheet.specs.declared.SheetAnswer.{SheetAnswer}
 use Rattle.sheet.specs.declared.SheetAnswer.the-variants.{Good, Refused}
-use Rattle.sheet.specs.Answers.{paper, readTold, listAfter, SheetRead, judgeTold}
+use Rattle.sheet.specs.Answers.{paperSheet, readTold, listAfter, SheetRead, judgeTold}
 use Rattle.sheet.specs.inner.Machine.{after}
 use Rattle.sheet.specs.FormLaws.{one-form}
 
@@ -14,12 +14,12 @@ answerOf : Told (Unit {0}) → SheetAnswer
 answerOf (gives a) = Good
 answerOf (refused r) = Refused r
 
-answer-back : (a : SheetAnswer) → answerOf (paper a) ≡ a
+answer-back : (a : SheetAnswer) → answerOf (paperSheet a) ≡ a
 unfolding answerOf
 answer-back Good = refl
 answer-back (Refused r) = refl
 
-pub one-answer : (a b : SheetAnswer) → paper a ≡ paper b → a ≡ b
+pub one-answer : (a b : SheetAnswer) → paperSheet a ≡ paperSheet b → a ≡ b
 one-answer a b e = sym (answer-back a) ∙ (ap answerOf e ∙ answer-back b)
 
 pub one-read_sheet : {text before later after : List ℕ} {a b : SheetAnswer} → SheetRead text before a later → SheetRead text before b after → (a ≡ b) × (later ≡ after)
@@ -30,5 +30,5 @@ one-read_sheet {text} {before} {later} {after} {a} {b} p q =
     (e, p .list ∙ (ap₂ (λ (x : SheetAnswer) (y : List ℕ). listAfter x y before) e (s .numbers-same) ∙ sym (q .list)))
 
 -- the judge of a list
-pub one-judge_sheet : (s : List ℕ) (a b : SheetAnswer) → paper a ≡ judgeTold s → paper b ≡ judgeTold s → a ≡ b
+pub one-judge_sheet : (s : List ℕ) (a b : SheetAnswer) → paperSheet a ≡ judgeTold s → paperSheet b ≡ judgeTold s → a ≡ b
 one-judge_sheet s a b p q = one-answer a b (p ∙ sym q)

@@ -30,7 +30,7 @@ pub record Numbers (l : List ℕ) : Type 0 where
   pub small : (i : ℕ) → getD l i 0 ≤ mostFigure
 
 -- the text is the good sheet of these numbers
-pub record Sheet (text numbers : List ℕ) : Type 0 where
+pub record IsSheet (text numbers : List ℕ) : Type 0 where
   pub good : Numbers numbers
   pub is : text ≡ sheetText numbers
 
@@ -38,7 +38,7 @@ pub record Sheet (text numbers : List ℕ) : Type 0 where
 pub record Begins (text : List ℕ) : Type 0 where
   pub rest : List ℕ
   pub numbers : List ℕ
-  pub sheet : Sheet (text ++ rest) numbers
+  pub sheet : IsSheet (text ++ rest) numbers
 
 -- the row of the byte after a text: the number of line feeds before it
 abbrev pub feeds : List ℕ → ℕ
@@ -48,4 +48,4 @@ feeds (b ∷ bs) = cond (eqb b 10) (suc (feeds bs)) (feeds bs)
 -- the first bad row: the one that holds the first byte after which no good sheet can follow or, if there is no such byte, the row at which the text ends too soon
 pub data FirstBad (text : List ℕ) (row : ℕ) : Type 0 where
   byte : (p : List ℕ) (b : ℕ) (rest : List ℕ) → text ≡ p ++ (b ∷ rest) → Begins p → (Begins (p ++ (b ∷ [])) → ⊥) → feeds p ≡ row → FirstBad text row
-  short : Begins text → ((numbers : List ℕ) → Sheet text numbers → ⊥) → feeds text ≡ row → FirstBad text row
+  short : Begins text → ((numbers : List ℕ) → IsSheet text numbers → ⊥) → feeds text ≡ row → FirstBad text row

@@ -13,8 +13,8 @@ use Rattle.text.specs.Fold.{run}
 use Rattle.text.specs.FoldLaws.{Runs, and-then}
 use Rattle.text.specs.Decimal.{decimal}
 use Rattle.text.specs.DecimalLaws.{digits-run}
-use Rattle.text.specs.Reading.{isDigit}
-use Rattle.text.specs.ReadingLaws.{first-follows, next-follows, is-digit}
+use Rattle.text.specs.Wholes.{isDigit}
+use Rattle.text.specs.WholesLaws.{first-follows, next-follows, is-digit}
 use Rattle.sheet.specs.Limits.{mostFigure, sheetNumbers}
 use Rattle.sheet.specs.declared.machine.Place.{Place}
 use Rattle.sheet.specs.declared.machine.State.the-variants.{Going}

@@ -9,12 +9,12 @@ ghost use Rattle.rows.specs.Limits.{firstKelvin, lastKelvin};
 ghost use Rattle.rows.specs.Rows.{rowsH};
 ghost use Rattle.sheet.specs.Limits.{sheetNumbers};
 ghost use Rattle.sheet.specs.Sheet.{o2, co2, h2o};
-ghost use Rattle.sheet.specs.Answers.{paper, judgeTold};
+ghost use Rattle.sheet.specs.Answers.{paperSheet, judgeTold};
 
 // Whether the list is an accepted sheet: refusal 1, or 3 with the first bad row, else good.
 pub fn judge(list: &[u32], air: &[u32; rows::ROWS]) -> SheetAnswer
     requires { ⌜ now air ≡ rowsH ⌝ }
-    ensures { λ r. ⌜ paper r ≡ judgeTold (now (list .entry)) ⌝ }
+    ensures { λ r. ⌜ paperSheet r ≡ judgeTold (now (list .entry)) ⌝ }
 {
     if list.len() != crate::NUMBERS {
         return SheetAnswer::Refused(Refusal::Plain(crate::LIST_LENGTH));
@@ -27,19 +27,12 @@ pub fn judge(list: &[u32], air: &[u32; rows::ROWS]) -> SheetAnswer
     }
 }
 
-// The number in 64 bits.
-fn wide(x: u32) -> u64
-    ensures { λ r. ⌜ (r ≡ x) × (r < 4294967296) ⌝ }
-{
-    x as u64
-}
-
 // O2 at a whole kelvin.
 pub fn o2_at(list: &[u32], kelvin: u64) -> u64
     requires { ⌜ (length (now list) ≡ sheetNumbers) × (firstKelvin ≤ kelvin) × (kelvin ≤ lastKelvin) ⌝ }
     ensures { λ r. ⌜ (r ≡ o2 (now (list .entry)) kelvin) × (r < 4294967296) ⌝ }
 {
-    wide(list[3 * (kelvin - rows::FIRST_KELVIN) as usize])
+    rows::wide(list[3 * (kelvin - rows::FIRST_KELVIN) as usize])
 }
 
 // CO2 at a whole kelvin.
@@ -47,7 +40,7 @@ pub fn co2_at(list: &[u32], kelvin: u64) -> u64
     requires { ⌜ (length (now list) ≡ sheetNumbers) × (firstKelvin ≤ kelvin) × (kelvin ≤ lastKelvin) ⌝ }
     ensures { λ r. ⌜ (r ≡ co2 (now (list .entry)) kelvin) × (r < 4294967296) ⌝ }
 {
-    wide(list[3 * (kelvin - rows::FIRST_KELVIN) as usize + 1])
+    rows::wide(list[3 * (kelvin - rows::FIRST_KELVIN) as usize + 1])
 }
 
 // H2O at a whole kelvin.
@@ -55,7 +48,7 @@ pub fn h2o_at(list: &[u32], kelvin: u64) -> u64
     requires { ⌜ (length (now list) ≡ sheetNumbers) × (firstKelvin ≤ kelvin) × (kelvin ≤ lastKelvin) ⌝ }
     ensures { λ r. ⌜ (r ≡ h2o (now (list .entry)) kelvin) × (r < 4294967296) ⌝ }
 {
-    wide(list[3 * (kelvin - rows::FIRST_KELVIN) as usize + 2])
+    rows::wide(list[3 * (kelvin - rows::FIRST_KELVIN) as usize + 2])
 }
 
 // Writes the numbers of a whole sheet into the lent list.

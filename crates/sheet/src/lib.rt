@@ -7,7 +7,7 @@ mod machine;
 
 use refusal::Refusal;
 ghost use mathlib.Core.Path.{_≡_};
-ghost use Rattle.sheet.specs.Answers.{SheetRead, paper, judgeTold};
+ghost use Rattle.sheet.specs.Answers.{SheetRead, paperSheet, judgeTold};
 
 // A good sheet, or the refusal.
 pub enum SheetAnswer {
@@ -50,7 +50,7 @@ pub fn read_sheet(text: &[u8], list: &mut [u32]) -> SheetAnswer
 
 // Judges a sheet list: good where its length is 5,403 and no row is bad.
 pub fn judge_sheet(list: &[u32]) -> SheetAnswer
-    ensures { λ r. ⌜ paper r ≡ judgeTold (now (list .entry)) ⌝ }
+    ensures { λ r. ⌜ paperSheet r ≡ judgeTold (now (list .entry)) ⌝ }
 {
     let air = rows::columns::heat_column();
     inner::judge(list, &air)

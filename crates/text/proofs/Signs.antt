@@ -15,7 +15,7 @@ use mir.Syntax.{w64}
 use mir.Val.{Fits, SFits, toZ, ofZ}
 use Rattle.signed.specs.Zed.{dn, back, back-pos, same-by, is-minus, is-self, is-pos, fits-from, fits-dn, leZ-false, zed}
 use Rattle.text.specs.Decimal.{decimal, decimalZ}
-use Rattle.text.specs.Reading.{minusFirst, minusOf}
+use Rattle.text.specs.Wholes.{minusFirst, minusOf}
 use Rattle.text.specs.declared.Digits.{Digits}
 use Rattle.text.specs.declared.Digits.the-variants.{Value}
 use Rattle.text.specs.declared.Whole.the-variants.{Is}

@@ -3,8 +3,8 @@ pub mod Fold
 pub mod FoldLaws
 pub mod Decimal
 pub mod DecimalLaws
-pub mod Reading
-pub mod ReadingLaws
+pub mod Wholes
+pub mod WholesLaws
 pub mod Bytes
 pub mod Put
 pub mod PutLaws

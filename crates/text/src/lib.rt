@@ -6,7 +6,7 @@ ghost use mathlib.Core.Bool.{Bool};
 ghost use mathlib.Core.List.{List, [], _∷_, _++_};
 ghost use lib.IntN.{natAbs};
 ghost use Rattle.text.specs.Decimal.{decimal, decimalZ};
-ghost use Rattle.text.specs.Reading.{isDigit, mayFollow, extended, stepDigits, digitsOf, Within, plusOf, minusOf, minusFirst, wholeOf};
+ghost use Rattle.text.specs.Wholes.{isDigit, mayFollow, extended, stepDigits, digitsOf, Within, plusOf, minusOf, minusFirst, wholeOf};
 ghost use Rattle.text.specs.Put.{Put};
 
 // What the digits of a text say so far.

@@ -14,8 +14,8 @@ use lib.Bits.{bitAnd, and-mask}
 use lib.Ieee.{Float, nan, inf, fin, binary64, isNan, ofBits, nanBits, div, inFloat}
 use lib.Ieee.Bits.{nanBits-is}
 use Rattle.text.specs.Fold.{run}
-use Rattle.text.specs.Reading.{isDigit, minusFirst, mayFollow}
-use Rattle.text.specs.ReadingLaws.{and-left, and-right, digit-range}
+use Rattle.text.specs.Wholes.{isDigit, minusFirst, mayFollow}
+use Rattle.text.specs.WholesLaws.{and-left, and-right, digit-range}
 use Rattle.typed.specs.Typed.{takes, firstPart, nextWhole, nextFraction, stepPart, partOf, Small, hexDigit, isPattern}
 use Rattle.typed.specs.declared.Part.{Part}
 use Rattle.typed.specs.declared.Part.the-variants.{Start, Whole, Point, Fraction, Bad}

@@ -8,7 +8,7 @@ use lib.ListN.{drop, getD, length}
 use lib.IntN.{pos}
 use lib.Ieee.{Float, binary64, div, neg, ofInt, ofBits}
 use Rattle.text.specs.Fold.{run}
-use Rattle.text.specs.Reading.{isDigit, minusFirst}
+use Rattle.text.specs.Wholes.{isDigit, minusFirst}
 use Rattle.typed.specs.declared.Part.{Part}
 use Rattle.typed.specs.declared.Part.the-variants.{Start, Whole, Point, Fraction, Bad}
 use Rattle.typed.specs.declared.Number.{Number}

@@ -8,7 +8,7 @@ use borrow.Author.Tests.{le-leb, lt-leb, ne-eqb}
 use Rattle.text.specs.FoldLaws.{Runs, and-then}
 use Rattle.text.specs.Decimal.{decimal}
 use Rattle.text.specs.DecimalLaws.{digits-run}
-use Rattle.text.specs.ReadingLaws.{is-digit}
+use Rattle.text.specs.WholesLaws.{is-digit}
 use Rattle.typed.specs.Typed.{takes, firstPart, nextWhole, nextFraction, stepPart, partOf}
 use Rattle.typed.specs.declared.Part.{Part}
 use Rattle.typed.specs.declared.Part.the-variants.{Start, Whole, Point, Fraction}

@@ -18,7 +18,7 @@ use Rattle.refusal.specs.Refusals.{Told, gives, refused, first, Clear, clear, n
 use Rattle.refusal.specs.RefusalsLaws.{gives-clear, values-given}
 use Rattle.air.specs.Halving.{eleven}
 use Rattle.air.specs.HalvingLaws.{length-eleven}
-use Rattle.air.specs.Inverse.{temperature, rest, looks, unreached, Found, found, written}
+use Rattle.air.specs.Inverted.{temperature, rest, looks, unreached, Found, found, written}
 use Rattle.air.specs.InverseLaws.{looks-most, temperature-least, temperature-most}
 use Rattle.sheet.specs.Sheet.{Accepted}
 use Rattle.gas.specs.declared.Gas.{Gas}
@@ -26,8 +26,8 @@ use Rattle.gas.specs.declared.Heat.{Heat}
 use Rattle.gas.specs.declared.TemperatureAnswer.the-variants.{At, Refused as NotFound}
 use Rattle.gas.specs.Burning.{document01, Limits, Burns, lean}
 use Rattle.gas.specs.Heat.{gasHeat}
-use Rattle.gas.specs.Answers.{Inverse}
-use Rattle.refusal.specs.OrdersLaws.{stopped}
+use Rattle.gas.specs.Answers.{Inverted}
+use Rattle.refusal.specs.OrdersLaws.{stopped-first}
 use Rattle.gas.specs.BoundsLaws.{gas-heat-most, gas-heat-least}
 use Rattle.walk.specs.declared.Step.{Step}
 use Rattle.walk.specs.declared.stepping.Standing.{Standing}
@@ -35,7 +35,7 @@ use Rattle.walk.specs.declared.stepping.Asking.{Asking}
 use Rattle.walk.specs.declared.stepping.Ask.the-variants.{For, Refused as AskRefused}
 use Rattle.walk.specs.declared.stepping.Stepped.the-variants.{Done, Refused}
 use Rattle.walk.specs.Step.{Asked, Out, held, newGas, burnHeat, stepHeat, wrongAtoms, wrongHeat, askedOf, asked, outOf, sought, judge}
-use Rattle.walk.specs.inner.Work.{stateOf, Stands, InReach, AsksOf, burning, none, Asks, standing, ready, StepGives}
+use Rattle.walk.specs.inner.Work.{stateOf, Stands, InReach, AsksOf, burning, none, Asks, standingOf, ready, StepGives}
 use Rattle.walk.specs.inner.Work as work
 use Rattle.walk.proofs.Asking.{brought-most, fuel-small}
 
@@ -121,9 +121,9 @@ module _ (s : List ℕ) (st : Standing) (p : Step) where
     is-sought = rw (← q .asked-is) refl
 
     -- it is asked, and not found
-    pub search-stops : (r : Refusal) (before after : List ℕ) → Inverse [] v target before (NotFound r) after → StepGives judged s before (Refused (numberOf r)) after
+    pub search-stops : (r : Refusal) (before after : List ℕ) → Inverted [] v target before (NotFound r) after → StepGives judged s before (Refused (numberOf r)) after
     search-stops r before after h =
-        let e : judged ≡ refused r = is-sought ∙ sym (stopped (unreached v target) [] (found v target) out r (h .told)) in
+        let e : judged ≡ refused r = is-sought ∙ sym (stopped-first (unreached v target) [] (found v target) out r (h .told)) in
         rw e (record {
           told = refl;
           looks = h .list ∙ ap (λ (x : Told Found). written x (looks v target) before) (sym (h .told));
@@ -131,7 +131,7 @@ module _ (s : List ℕ) (st : Standing) (p : Step) where
         })
 
     -- it is asked and found
-    module _ (t : Millikelvin) (left : Heat) (before after : List ℕ) (h : Inverse [] v target before (At t left) after) where
+    module _ (t : Millikelvin) (left : Heat) (before after : List ℕ) (h : Inverted [] v target before (At t left) after) where
       cleared : Clear (unreached v target) × (found v target ≡ record { mk = t .0; left = left .0 })
       cleared = gives-clear (unreached v target) {a = found v target} {b = record { mk = t .0; left = left .0 }} (sym (h .told))
 
@@ -166,7 +166,7 @@ module _ (s : List ℕ) (st : Standing) (p : Step) where
           let u = temperature-most v target reached in
           rw heat-there (fits-from w64 (is-self (v T)) (omega (arith, gas-heat-most b ok T l u)) (omega (arith, gas-heat-least b ok T l u)))
 
-      pub found-goes : StepGives judged s before (Done (standing a t left) left) after
+      pub found-goes : StepGives judged s before (Done (standingOf a t left) left) after
       found-goes =
           let T = temperature v target in
           let n : up (t .0) ≡ T = ap up mk-is in
@@ -176,7 +176,7 @@ module _ (s : List ℕ) (st : Standing) (p : Step) where
             looks =
                 h .list ∙ ap (λ (x : Told Found). written x (looks v target) before) (sym (h .told))
                 ∙ ap (λ (k : ℕ). eleven (looks v target) ++ drop k before) (sym (length-eleven (looks v target) (looks-most v target)));
-            stands = ready {st = standing a t left} {rest = left} (record {
+            stands = ready {st = standingOf a t left} {rest = left} (record {
               burns = b .0;
               covered = rw mk-is (not-false _ (not-outside (pos coldest) (pos hottest) (pos T) (omega (arith, temperature-least v target reached)) (omega (arith, temperature-most v target reached))));
               heat-is = heat-there ∙ ap v (sym n);

@@ -17,14 +17,14 @@ use Rattle.refusal.specs.Refusals.{Told, gives, refused, first, Clear, clear}
 use Rattle.refusal.specs.BoolLaws.{neither}
 use Rattle.refusal.specs.RefusalsLaws.{gives-clear, values-given}
 use Rattle.sheet.specs.Sheet.{Accepted}
-use Rattle.sheet.specs.Answers.{sheetLines, judgeTold, paper}
+use Rattle.sheet.specs.Answers.{sheetLines, judgeTold, paperSheet}
 use Rattle.sheet.specs.AnswersLaws.{past-sheet, stopped-by-sheet}
 use Rattle.sheet.specs.declared.SheetAnswer.the-variants.{Refused as NotGood}
 use Rattle.gas.specs.declared.Charge.{Charge}
 use Rattle.gas.specs.declared.Gas.{Gas}
 use Rattle.gas.specs.Burning.{document01, gasOf, Burns}
 use Rattle.gas.specs.BurningLaws.{burns-of}
-use Rattle.refusal.specs.OrdersLaws.{stopped, clear-left, clear-right}
+use Rattle.refusal.specs.OrdersLaws.{stopped-first, clear-left, clear-right}
 use Rattle.gas.specs.Answers.{chargeLines, temperatureLines}
 use Rattle.walk.specs.Limits.{stepNumbers, mostSteps, mostNumbers}
 use Rattle.walk.specs.declared.WalkAnswer.{WalkAnswer}
@@ -80,7 +80,7 @@ module _ (s : List ℕ) (ch : Charge) (mk : ℤ) (numbers : List ℤ) (nt nr nl 
 
     -- the starting charge or temperature is refused
     pub told-start : (r : Refusal) → refused r ≡ first (chargeLines document01 ch ++ temperatureLines mk) (gasOf ch) → told ≡ refused r
-    told-start r q = past-lists ∙ sym (stopped (chargeLines document01 ch ++ temperatureLines mk) [] (gasOf ch) course r q)
+    told-start r q = past-lists ∙ sym (stopped-first (chargeLines document01 ch ++ temperatureLines mk) [] (gasOf ch) course r q)
 
     -- or the walk begins
     pub record Begins (g : Gas) : Type 0 where
@@ -112,7 +112,7 @@ as-begun s ch t g st e b = b .state-is ∙ ap (λ (x : Gas). record { gas = x; m
 
 -- ---- a sheet list judged first
 module _ (s : List ℕ) (ch : Charge) (mk : ℤ) (numbers : List ℤ) (nt nr nl : ℕ) where
-  pub sheet-refused : (r : Refusal) → paper (NotGood r) ≡ judgeTold s → walked (sheetLines s) document01 s ch mk numbers nt nr nl ≡ refused r
+  pub sheet-refused : (r : Refusal) → paperSheet (NotGood r) ≡ judgeTold s → walked (sheetLines s) document01 s ch mk numbers nt nr nl ≡ refused r
   unfolding walked
   sheet-refused r e = stopped-by-sheet s r (startLines document01 ch mk (length numbers) nt nr nl) _ e
 

@@ -24,8 +24,8 @@ use Rattle.walk.specs.Ledger.{ledger, dearest, sumOf}
 
 -- n steps were done, and this charge and temperature came back: of a walk done to its end, or stopped at a step
 pub data CameBack : WalkAnswer → ℕ → Charge → ℤ → Type 0 where
-  done : (n : ℕ) (ch : Charge) (t : ℤ) → CameBack (Done n ch (record { 0 = t })) n ch t
-  stopped : (n number : ℕ) (ch : Charge) (t : ℤ) → CameBack (Stopped n number ch (record { 0 = t })) n ch t
+  cameDone : (n : ℕ) (ch : Charge) (t : ℤ) → CameBack (Done n ch (record { 0 = t })) n ch t
+  cameStopped : (n number : ℕ) (ch : Charge) (t : ℤ) → CameBack (Stopped n number ch (record { 0 = t })) n ch t
 
 -- the gas after each step
 abbrev pub gasesAfter : Gas → List Step → List Gas

@@ -35,7 +35,7 @@ use Rattle.walk.specs.Walk.{Trace, End, ended, cut, run, noStep, stepsOf
 use Rattle.walk.specs.Ledger.{total, ledger, dearest, sumOf, lastOf}
 use Rattle.walk.specs.RunLaws.{StepDone, step-done, of-run}
 use Rattle.walk.specs.LedgerLaws.{AllClimb, dearests, run-balances, gas-after}
-use Rattle.walk.specs.Demand3.{CameBack, done, stopped, gasesAfter, gasBefore, standing, askedAt, Demand3}
+use Rattle.walk.specs.Demand3.{CameBack, cameDone, cameStopped, gasesAfter, gasBefore, standing, askedAt, Demand3}
 
 -- ---- the steps that a run did, one after the other
 data Chain (w : Weights) (s : List ℕ) : State → List Step → List Out → Type 0 where
@@ -185,16 +185,16 @@ module _ (w : Weights) (s : List ℕ) (climb : AllClimb w s) (st : State) (ps : 
 -- what came back is how the run ended
 came-back : {a : WalkAnswer} {n : ℕ} {ch : Charge} {mk : ℤ} → CameBack a n ch mk → (m : ℕ) (e : End) → paperWalk a ≡ gives (courseOf m e)
     → (n ≡ m) × (ch ≡ chargeOf (lastOf e .gas)) × (mk ≡ pos (lastOf e .mk))
-came-back (done n ch t) m (ended st) h = (cc, cc, cc)
-came-back (done n ch t) m (cut k st) h = absurd (let z : _≡_ {A = ℕ} 0 1 = cc in omega arith)
-came-back (stopped n k ch t) m (ended st) h = absurd (let z : _≡_ {A = ℕ} 0 1 = cc in omega arith)
-came-back (stopped n k ch t) m (cut j st) h = (cc, cc, cc)
+came-back (cameDone n ch t) m (ended st) h = (cc, cc, cc)
+came-back (cameDone n ch t) m (cut k st) h = absurd (let z : _≡_ {A = ℕ} 0 1 = cc in omega arith)
+came-back (cameStopped n k ch t) m (ended st) h = absurd (let z : _≡_ {A = ℕ} 0 1 = cc in omega arith)
+came-back (cameStopped n k ch t) m (cut j st) h = (cc, cc, cc)
 
 -- a refused start has nothing that came back
 began : {a : WalkAnswer} {n : ℕ} {ch : Charge} {mk : ℤ} → CameBack a n ch mk → (told : Told Trace) → paperWalk a ≡ course told → (T : Trace) × (told ≡ gives T)
 began c (gives T) h = (T, refl)
-began (done n ch t) (refused r) h = absurd (let z : _≡_ {A = ℕ} 0 1 = cc in omega arith)
-began (stopped n j ch t) (refused r) h = absurd (let z : _≡_ {A = ℕ} 0 1 = cc in omega arith)
+began (cameDone n ch t) (refused r) h = absurd (let z : _≡_ {A = ℕ} 0 1 = cc in omega arith)
+began (cameStopped n j ch t) (refused r) h = absurd (let z : _≡_ {A = ℕ} 0 1 = cc in omega arith)
 
 module _ (w : Weights) (s : List ℕ) (climb : AllClimb w s) (lines : List Line) (start : Charge) (from : ℤ) (numbers : List ℤ) (before : Lists) where
   abbrev steps : List Step

@@ -22,8 +22,8 @@ abbrev pub ledger : Weights → List ℕ → State → List Step → ℤ
 ledger w s st ps = held w s st +ℤ total (map (stepHeat w) ps)
 
 -- the rise of a gas's heat from one mK to the next
-abbrev pub rise : (ℕ → ℤ) → ℕ → ℕ
-rise v T = up (v (suc T) -ℤ v T)
+abbrev pub mkRise : (ℕ → ℤ) → ℕ → ℕ
+mkRise v T = up (v (suc T) -ℤ v T)
 
 -- the largest of n rises from T on
 unfoldable pub largest : (ℕ → ℕ) → ℕ → ℕ → ℕ
@@ -32,7 +32,7 @@ largest f (suc n) T = cond (ltb (largest f n (suc T)) (f T)) (f T) (largest f n 
 
 -- the dearest thousandth of a kelvin of a gas: the largest rise of its gas heat from one mK to the next, from 200,000 to 2,000,000
 unfoldable pub dearest : Weights → List ℕ → Gas → ℕ
-dearest w s g = largest (rise (gasHeat w s g)) (hottest - coldest) coldest
+dearest w s g = largest (mkRise (gasHeat w s g)) (hottest - coldest) coldest
 
 abbrev pub sumOf : List ℕ → ℕ
 sumOf [] = 0

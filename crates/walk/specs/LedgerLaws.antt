@@ -26,7 +26,7 @@ use Rattle.gas.specs.HeatLaws.{heat-line, air-outweighs}
 use Rattle.walk.specs.declared.Step.{Step}
 use Rattle.walk.specs.Step.{State, Out, held, newGas, stepHeat, askedOf, judge}
 use Rattle.walk.specs.Walk.{Trace, ended, cut, more, run, restsOf}
-use Rattle.walk.specs.Ledger.{total, rise, largest, dearest, sumOf, lastOf}
+use Rattle.walk.specs.Ledger.{total, mkRise, largest, dearest, sumOf, lastOf}
 use Rattle.walk.specs.RunLaws.{StepDone, step-done, of-run}
 
 -- ---- the largest
@@ -57,20 +57,20 @@ largest-one f (suc n) T =
     (λ h. let o = largest-one f n (suc T) in record { place = o .place; least = omega (arith, o .least); most = omega (arith, o .most); is = rw h (o .is) })
 
 -- the dearest thousandth: at least every rise, and equal to one
-pub dearest-least : (w : Weights) (s : List ℕ) (g : Gas) (T : ℕ) → coldest ≤ T → T < hottest → rise (gasHeat w s g) T ≤ dearest w s g
+pub dearest-least : (w : Weights) (s : List ℕ) (g : Gas) (T : ℕ) → coldest ≤ T → T < hottest → mkRise (gasHeat w s g) T ≤ dearest w s g
 unfolding dearest
-dearest-least w s g T l u = largest-most (rise (gasHeat w s g)) (hottest - coldest) coldest T l u
+dearest-least w s g T l u = largest-most (mkRise (gasHeat w s g)) (hottest - coldest) coldest T l u
 
-pub dearest-is-one : (w : Weights) (s : List ℕ) (g : Gas) → OneOf (rise (gasHeat w s g)) coldest hottest (dearest w s g)
+pub dearest-is-one : (w : Weights) (s : List ℕ) (g : Gas) → OneOf (mkRise (gasHeat w s g)) coldest hottest (dearest w s g)
 unfolding dearest
-dearest-is-one w s g = largest-one (rise (gasHeat w s g)) (hottest - coldest - 1) coldest
+dearest-is-one w s g = largest-one (mkRise (gasHeat w s g)) (hottest - coldest - 1) coldest
 
 -- ---- the heat of a gas that burns runs straight, so its dearest thousandth is the largest slope of a row
 module _ (w : Weights) (sound : Sound w) {s : List ℕ} (ok : Accepted s) (g : Gas) (b : Burns w g) where
   abbrev slope : ℕ → ℕ
   slope k = heatSlope (massesOf w g) s k
 
-  rise-at : (k f : ℕ) → firstKelvin ≤ k → k < lastKelvin → f < 1000 → rise (gasHeat w s g) (1000 * k + f) ≡ slope k
+  rise-at : (k f : ℕ) → firstKelvin ≤ k → k < lastKelvin → f < 1000 → mkRise (gasHeat w s g) (1000 * k + f) ≡ slope k
   rise-at k f l u h =
       let t = air-outweighs w sound g b in
       let here = heat-line (massesOf w g) t ok k l u f (omega arith) in
@@ -79,10 +79,10 @@ module _ (w : Weights) (sound : Sound w) {s : List ℕ} (ok : Accepted s) (g : G
       let base = is-self (gasHeat w s g (1000 * k)) in
       rw (e, here, next) (ap up (same-by (is-minus (is-add base (is-pos (suc f * slope k))) (is-add base (is-pos (f * slope k)))) (is-pos (slope k)) (omega (arith, suc-mul f (slope k)))))
 
-  rise-is : (T : ℕ) → coldest ≤ T → T < hottest → rise (gasHeat w s g) T ≡ slope (T / 1000)
+  rise-is : (T : ℕ) → coldest ≤ T → T < hottest → mkRise (gasHeat w s g) T ≡ slope (T / 1000)
   rise-is T l u =
       let e : 1000 * (T / 1000) + T % 1000 ≡ T = omega arith in
-      ap (rise (gasHeat w s g)) (sym e) ∙ rise-at (T / 1000) (T % 1000) (omega arith) (omega arith) (omega arith)
+      ap (mkRise (gasHeat w s g)) (sym e) ∙ rise-at (T / 1000) (T % 1000) (omega arith) (omega arith) (omega arith)
 
   pub slope-most : (k : ℕ) → firstKelvin ≤ k → k < lastKelvin → slope k ≤ dearest w s g
   slope-most k l u =

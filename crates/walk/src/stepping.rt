@@ -20,7 +20,7 @@ ghost use Rattle.air.specs.Limits.{lookPlaces};
 ghost use Rattle.sheet.specs.Sheet.{Accepted};
 ghost use Rattle.gas.specs.Burning.{document01, Limits};
 ghost use Rattle.walk.specs.Step.{newGas, stepHeat, wrongAtoms, wrongHeat, asked, held, judge};
-ghost use Rattle.walk.specs.inner.Work.{stateOf, Stands, wrongCount, paperAtoms, paperGrown, InReach, Asks, standing, StepGives};
+ghost use Rattle.walk.specs.inner.Work.{stateOf, Stands, wrongCount, paperAtoms, paperGrown, InReach, Asks, standingOf, StepGives};
 
 // Where a walk stands: its gas and temperature, with the gas heat there and at 15 °C, so that no step works either out again.
 pub(crate) struct Standing {
@@ -160,7 +160,7 @@ fn asked_of(st: Standing, p: Step, sheet: &[u32], air: &[u32; rows::ROWS]) -> As
 // The state after a step that found its temperature: the heat there is the target less the rest.
 fn stand(asked: Asking, t: Millikelvin, rest: Heat) -> Standing
     requires { ⌜ SFits w64 (asked .target .0 -ℤ rest .0) ⌝ }
-    ensures { λ r. ⌜ r ≡ standing asked t rest ⌝ }
+    ensures { λ r. ⌜ r ≡ standingOf asked t rest ⌝ }
 {
     let gas = asked.gas;
     let fifteen = asked.fifteen;

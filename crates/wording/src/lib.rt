@@ -23,7 +23,7 @@ ghost use Rattle.air.specs.Answers.{paperReading, paperPsi};
 ghost use Rattle.gas.specs.Answers.{paperHeat, paperSpecific, paperTemperature};
 ghost use Rattle.walk.specs.Walk.{paperWalk};
 ghost use Rattle.marking.specs.Figures.{paperNumbers};
-ghost use Rattle.marking.specs.Marking.{paper};
+ghost use Rattle.marking.specs.Marking.{paperMark};
 ghost use Rattle.wording.specs.Texts.{refusalText, toldText, fieldsText, used, countedText, readingText, inverseText, productsText, wholeText, stationText, markText, stateText, courseText};
 
 // A tab and a number.
@@ -191,7 +191,7 @@ pub fn put_station(answer: NumbersAnswer, out: &mut [u8], at: usize) -> usize
 
 // `counts` or `misses`, or the refusal.
 pub fn put_mark(answer: MarkAnswer, out: &mut [u8], at: usize) -> usize
-    ensures { λ r. ⌜ Put (markText (paper answer)) (now (out .entry)) at r (now (out .exit)) ⌝ }
+    ensures { λ r. ⌜ Put (markText (paperMark answer)) (now (out .entry)) at r (now (out .exit)) ⌝ }
 {
     match answer {
         MarkAnswer::Counts => text::put_text(b"counts", out, at),

@@ -3,7 +3,7 @@ use mathlib.Core.List.{[]}
 use Rattle.text.specs.declared.Whole.the-variants.{Is}
 use Rattle.fields.specs.FieldsLaws.{span-from, fields-none, count-next, count-bad, leading-next, leading-bad, leading-all}
 use Rattle.fields.specs.Fields.{fieldsFrom, countAll, leadingOf}
-use Rattle.text.specs.Reading.{wholeOf}
+use Rattle.text.specs.Wholes.{wholeOf}
 use Rattle.signed.specs.Zed.{back}
 use mir.Val.{SFits}
 use mir.Syntax.{w64}

@@ -7,7 +7,7 @@ use Rattle.gas.specs.declared.Charge.{Charge}
 use Rattle.gas.specs.Burning.{document01, gasOf, products}
 use Rattle.gas.specs.BurningLaws.{admitted}
 use Rattle.gas.specs.Answers.{paperGas, chargeLines}
-use Rattle.refusal.specs.OrdersLaws.{told-through, stopped}
+use Rattle.refusal.specs.OrdersLaws.{told-through, stopped-first}
 use Rattle.gas.proofs.burn.Statement.{statement}
 use Rattle.gas.proofs.burn.Tie as tie
 
@@ -43,7 +43,7 @@ returns c =
 returns-2 : tie.Need-returns-2
 unfolding chargeOf
 returns-2 c =
-    stopped (chargeLines document01 (chargeOf (c .before .before .before .before))) [] _ _ (c .before .r .given .0 .0)
+    stopped-first (chargeLines document01 (chargeOf (c .before .before .before .before))) [] _ _ (c .before .r .given .0 .0)
     (ap paperGas (sym (c .before .r .given .1)) ∙ told (c .before .before .before))
 
 pub burn-spec : {M : Type 1} → statement M

@@ -1,7 +1,7 @@
 use borrow.Author.Needs.{needs}
 use mathlib.Core.Path.{sym, ap, _∙_}
 use mathlib.Core.List.{_++_}
-use Rattle.sheet.specs.Answers.{paper}
+use Rattle.sheet.specs.Answers.{paperSheet}
 use Rattle.sheet.specs.AnswersLaws.{accepted-of-told, stopped-by-sheet}
 use Rattle.gas.specs.Answers.{chargeLines, temperatureLines}
 use Rattle.gas.specs.Burning.{document01}
@@ -18,7 +18,7 @@ enum-told : tie.Need-enum-told
 enum-told c = search needs
 
 gas-heat-judged-requires : tie.Need-gas-heat-judged-requires
-gas-heat-judged-requires c κs = (accepted-of-told _ (sym (c .before .before .before .judge .ensures) ∙ ap paper (c .before .enum-told .given .1)), c .before .before .before .before .before .heat-column .ensures)
+gas-heat-judged-requires c κs = (accepted-of-told _ (sym (c .before .before .before .judge .ensures) ∙ ap paperSheet (c .before .enum-told .given .1)), c .before .before .before .before .before .heat-column .ensures)
 
 enum-known-r : tie.Need-enum-known-r
 enum-known-r c = search needs
@@ -29,7 +29,7 @@ returns c = c .gas-heat-judged .ensures
 returns-2 : tie.Need-returns-2
 returns-2 c =
     let s = c .before .before .before .before .before .before .before in
-    sym (stopped-by-sheet (s .args .sheet .now) (c .before .r .given .0 .0) (chargeLines document01 (s .args .charge) ++ temperatureLines (s .args .t .0)) _ (ap paper (sym (c .before .r .given .1)) ∙ c .before .before .before .judge .ensures))
+    sym (stopped-by-sheet (s .args .sheet .now) (c .before .r .given .0 .0) (chargeLines document01 (s .args .charge) ++ temperatureLines (s .args .t .0)) _ (ap paperSheet (sym (c .before .r .given .1)) ∙ c .before .before .before .judge .ensures))
 
 pub gas-heat-spec : {M : Type 1} → statement M
 gas-heat-spec = tie.close (tie.spec heat-column-requires judge-requires enum-told gas-heat-judged-requires enum-known-r returns returns-2)

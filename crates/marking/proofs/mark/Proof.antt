@@ -6,13 +6,13 @@ use mathlib.Core.Bool.{false}
 use lib.Dec.{lit<, lit≤}
 use lib.IntN.{pos, negℤ}
 use Rattle.signed.specs.Zed.{back, in-plain}
-use Rattle.marking.specs.Marking.{outside}
+use Rattle.marking.specs.Marking.{outOfRange}
 use Rattle.marking.proofs.Ends.{key-outside, window-outside, both-inside}
 use Rattle.marking.proofs.mark.Statement.{statement}
 use Rattle.marking.proofs.mark.Tie as tie
 
 -- past both tests
-in-range : (c : tie.Else2) → outside (c .before .before .before .before .args .key) (c .before .before .before .before .args .window) ≡ false
+in-range : (c : tie.Else2) → outOfRange (c .before .before .before .before .args .key) (c .before .before .before .before .args .window) ≡ false
 in-range c =
     let s = c .before .before .before .before in
     both-inside (s .args .key) (s .args .window)

@@ -9,8 +9,8 @@ use mir.Syntax.{w64}
 use mir.Val.{SFits}
 use Rattle.signed.specs.Zed.{back, apart, is-self, fits-from}
 use Rattle.refusal.specs.Refusals.{gives}
-use Rattle.refusal.specs.OrdersLaws.{told-through, stopped}
-use Rattle.sheet.specs.Answers.{paper}
+use Rattle.refusal.specs.OrdersLaws.{told-through, stopped-first}
+use Rattle.sheet.specs.Answers.{paperSheet}
 use Rattle.sheet.specs.AnswersLaws.{accepted-of-told, stopped-by-sheet}
 use Rattle.gas.specs.Burning.{document01, gasOf}
 use Rattle.gas.specs.Answers.{chargeLines, temperatureLines, heatOrder}
@@ -45,7 +45,7 @@ enum-told : tie.Need-enum-told
 enum-told c = search needs
 
 station-judged-requires : tie.Need-station-judged-requires
-station-judged-requires c κs = (accepted-of-told _ (sym (c .before .before .before .judge .ensures) ∙ ap paper (c .before .enum-told .given .1)), c .before .before .before .before .before .heat-column .ensures)
+station-judged-requires c κs = (accepted-of-told _ (sym (c .before .before .before .judge .ensures) ∙ ap paperSheet (c .before .enum-told .given .1)), c .before .before .before .before .before .heat-column .ensures)
 
 enum-known-n : tie.Need-enum-known-n
 enum-known-n c = search needs
@@ -61,7 +61,7 @@ enum-known-r-2 c = search needs
 returns : tie.Need-returns
 returns c =
     let s = c .before .before .before .before .before .before .before in
-    sym (stopped-by-sheet (s .args .sheet .now) (c .before .r .given .0 .0) (chargeLines document01 (s .args .charge) ++ temperatureLines (s .args .t .0)) _ (ap paper (sym (c .before .r .given .1)) ∙ c .before .before .before .judge .ensures))
+    sym (stopped-by-sheet (s .args .sheet .now) (c .before .r .given .0 .0) (chargeLines document01 (s .args .charge) ++ temperatureLines (s .args .t .0)) _ (ap paperSheet (sym (c .before .r .given .1)) ∙ c .before .before .before .judge .ensures))
 
 returns-2 : tie.Need-returns-2
 returns-2 c =
@@ -72,7 +72,7 @@ returns-2 c =
 returns-3 : tie.Need-returns-3
 returns-3 c =
     let s = c .before .before .before .before .before .before .before .before .before .before .before in
-    stopped (heatOrder document01 (s .args .charge) (s .args .t .0) (s .args .sheet .now)) [] _ _ (c .before .r2 .given .0 .0) (ap paperNumbers (sym (c .before .r2 .given .1)) ∙ c .before .before .before .station-judged .ensures)
+    stopped-first (heatOrder document01 (s .args .charge) (s .args .t .0) (s .args .sheet .now)) [] _ _ (c .before .r2 .given .0 .0) (ap paperNumbers (sym (c .before .r2 .given .1)) ∙ c .before .before .before .station-judged .ensures)
 
 pub station-spec : {M : Type 1} → statement M
 station-spec =

@@ -6,7 +6,7 @@ use mathlib.Core.List.{List, [], _∷_}
 use lib.Seq.{sets}
 use lib.Dec.{ltb, eqb}
 use Rattle.rows.specs.Limits.{firstKelvin, tableRows}
-use Rattle.text.specs.Reading.{isDigit, mayFollow}
+use Rattle.text.specs.Wholes.{isDigit, mayFollow}
 use Rattle.sheet.specs.Limits.{mostFigure}
 use Rattle.sheet.specs.declared.machine.Place.{Place}
 use Rattle.sheet.specs.declared.machine.State.{State}

@@ -2,8 +2,8 @@ use mathlib.Core.Path.{_≡_, refl, sym, _∙_}
 use mathlib.Core.Bool.{true, false}
 use native.Mathlib.Omega.{arith}
 use borrow.Author.Needs.{needs}
-use Rattle.text.specs.ReadingLaws.{follow-most}
-use Rattle.text.specs.Reading.{mayFollow, extended}
+use Rattle.text.specs.WholesLaws.{follow-most}
+use Rattle.text.specs.Wholes.{mayFollow, extended}
 use Rattle.text.proofs.extend.Statement.{statement}
 use Rattle.text.proofs.extend.Tie as tie
 

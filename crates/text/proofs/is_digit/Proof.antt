@@ -1,5 +1,5 @@
 use borrow.Author.Tests.{lt-leb, le-leb}
-use Rattle.text.specs.Reading.{isDigit}
+use Rattle.text.specs.Wholes.{isDigit}
 use Rattle.text.proofs.is_digit.Statement.{statement}
 use Rattle.text.proofs.is_digit.Tie as tie
 

@@ -3,7 +3,7 @@ use Prim.Native.Nat.{_+_, _*_}
 use native.Mathlib.Omega.{arith}
 use borrow.Author.Tests.{lt-leb, eq-eqb, ne-eqb}
 use borrow.Author.Needs.{needs}
-use Rattle.text.specs.Reading.{mayFollow}
+use Rattle.text.specs.Wholes.{mayFollow}
 use Rattle.text.proofs.Signs.{leb-less}
 use Rattle.text.proofs.may_follow.Statement.{statement}
 use Rattle.text.proofs.may_follow.Tie as tie

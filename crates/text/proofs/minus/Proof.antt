@@ -4,7 +4,7 @@ use native.Mathlib.Omega.{arith}
 use borrow.Author.Needs.{needs}
 use Rattle.text.proofs.Signs.{plus-fits, minus-fits, minus-is, minus-value}
 use Rattle.text.specs.declared.Whole.the-variants.{Is}
-use Rattle.text.specs.Reading.{Within}
+use Rattle.text.specs.Wholes.{Within}
 use Rattle.text.proofs.minus.Statement.{statement}
 use Rattle.text.proofs.minus.Tie as tie
 

@@ -4,7 +4,7 @@ use borrow.Author.Needs.{needs}
 use Rattle.text.proofs.Signs.{plus-fits}
 use Rattle.signed.specs.Zed.{back-pos}
 use Rattle.text.specs.declared.Whole.the-variants.{Is}
-use Rattle.text.specs.Reading.{Within, plusOf}
+use Rattle.text.specs.Wholes.{Within, plusOf}
 use Rattle.text.proofs.plus.Statement.{statement}
 use Rattle.text.proofs.plus.Tie as tie
 

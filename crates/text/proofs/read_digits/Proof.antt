@@ -4,7 +4,7 @@ use native.Mathlib.Omega.{arith}
 use lib.Seq.{take-all}
 use lib.ListN.{length, take, getD}
 use Rattle.text.specs.declared.Digits.the-variants.{Empty}
-use Rattle.text.specs.Reading.{stepDigits, digitsOf}
+use Rattle.text.specs.Wholes.{stepDigits, digitsOf}
 use Rattle.text.specs.Fold.{run}
 use Rattle.text.specs.FoldLaws.{run-more}
 use Rattle.text.proofs.read_digits.Statement.{statement}

@@ -4,9 +4,9 @@ use Prim.Native.Nat.{_-_}
 use native.Mathlib.Omega.{arith}
 use lib.ListN.{length}
 use borrow.Author.Needs.{needs}
-use Rattle.text.specs.ReadingLaws.{within}
+use Rattle.text.specs.WholesLaws.{within}
 use Rattle.text.proofs.Signs.{first-long, tail-is}
-use Rattle.text.specs.Reading.{Within, minusFirst, minusOf, plusOf, digitsOf, wholeOf}
+use Rattle.text.specs.Wholes.{Within, minusFirst, minusOf, plusOf, digitsOf, wholeOf}
 use Rattle.text.proofs.read_whole.Statement.{statement}
 use Rattle.text.proofs.read_whole.Tie as tie
 

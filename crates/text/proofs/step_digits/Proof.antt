@@ -2,8 +2,8 @@ use mathlib.Core.Path.{_≡_, refl, sym, _∙_}
 use mathlib.Core.Bool.{true, false}
 use borrow.Author.Tests.{not-true, not-false}
 use borrow.Author.Needs.{needs}
-use Rattle.text.specs.ReadingLaws.{digit-range}
-use Rattle.text.specs.Reading.{isDigit, stepDigits}
+use Rattle.text.specs.WholesLaws.{digit-range}
+use Rattle.text.specs.Wholes.{isDigit, stepDigits}
 use Rattle.text.proofs.step_digits.Statement.{statement}
 use Rattle.text.proofs.step_digits.Tie as tie
 

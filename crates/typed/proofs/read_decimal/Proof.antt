@@ -1,7 +1,7 @@
 use Rattle.typed.proofs.Parts.{small}
 use Rattle.typed.specs.Typed.{Small, finishOf, partOf, decimalOf}
 use Rattle.typed.proofs.Parts.{first-long, tail-is}
-use Rattle.text.specs.Reading.{minusFirst}
+use Rattle.text.specs.Wholes.{minusFirst}
 use Prim.Native.Nat.{_-_}
 use mathlib.Core.Bool.{true, false}
 use mathlib.Core.Path.{_≡_, sym, _∙_, ap, subst}

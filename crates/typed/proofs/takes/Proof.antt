@@ -1,6 +1,6 @@
 use Rattle.typed.proofs.Parts.{unseen}
-use Rattle.text.specs.ReadingLaws.{digit-range}
-use Rattle.text.specs.Reading.{isDigit}
+use Rattle.text.specs.WholesLaws.{digit-range}
+use Rattle.text.specs.Wholes.{isDigit}
 use Prim.Native.Nat.{_-_}
 use Rattle.typed.specs.Typed.{takes}
 use mathlib.Core.Bool.{true, false}

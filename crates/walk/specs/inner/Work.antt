@@ -91,8 +91,8 @@ pub record Asks (told : Told Asked) (s : List ℕ) (r : Ask) : Type 0 where
 
 -- ---- a step
 -- the state that follows from what was asked and what was found: the heat there is the target less the rest
-abbrev pub standing : Asking → Millikelvin → Heat → Standing
-standing a t rest = record { gas = a .gas; t = t; heat = record { 0 = a .target .0 -ℤ rest .0 }; fifteen = a .fifteen }
+abbrev pub standingOf : Asking → Millikelvin → Heat → Standing
+standingOf a t rest = record { gas = a .gas; t = t; heat = record { 0 = a .target .0 -ℤ rest .0 }; fifteen = a .fifteen }
 
 -- the state after it and the rest: what it tells beside its looks
 pub record Shown : Type 0 where

@@ -1,7 +1,7 @@
 use borrow.Author.Needs.{needs}
 use mathlib.Core.Path.{_∙_, sym, ap}
 use Rattle.marking.specs.declared.MarkAnswer.{MarkAnswer}
-use Rattle.marking.specs.Marking.{paper}
+use Rattle.marking.specs.Marking.{paperMark}
 use Rattle.capi.specs.Flat.{flatMark}
 use Rattle.capi.proofs.Structs.{mark-refused}
 use Rattle.capi.proofs.telling.tell_mark.Statement.{statement}
@@ -26,13 +26,13 @@ placed-of-requires : tie.Need-placed-of-requires
 placed-of-requires c κs = search needs
 
 returns : tie.Need-returns
-returns c = sym (ap (λ (a : MarkAnswer). flatMark (paper a)) (c .enum-told .given .1))
+returns c = sym (ap (λ (a : MarkAnswer). flatMark (paperMark a)) (c .enum-told .given .1))
 
 returns-2 : tie.Need-returns-2
-returns-2 c = sym (ap (λ (a : MarkAnswer). flatMark (paper a)) (c .enum-told2 .given .1))
+returns-2 c = sym (ap (λ (a : MarkAnswer). flatMark (paperMark a)) (c .enum-told2 .given .1))
 
 returns-3 : tie.Need-returns-3
-returns-3 c = mark-refused (c .before .before .before .before .answer .given .0 .0) (c .before .before .number-of .ensures) (c .before .row-of .ensures) (c .placed-of .ensures) ∙ sym (ap (λ (a : MarkAnswer). flatMark (paper a)) (c .before .before .before .before .answer .given .1))
+returns-3 c = mark-refused (c .before .before .before .before .answer .given .0 .0) (c .before .before .number-of .ensures) (c .before .row-of .ensures) (c .placed-of .ensures) ∙ sym (ap (λ (a : MarkAnswer). flatMark (paperMark a)) (c .before .before .before .before .answer .given .1))
 
 pub tell-mark-spec : {M : Type 1} → statement M
 tell-mark-spec =

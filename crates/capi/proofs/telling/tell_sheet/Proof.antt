@@ -1,7 +1,7 @@
 use borrow.Author.Needs.{needs}
 use mathlib.Core.Path.{_∙_, sym, ap}
 use Rattle.sheet.specs.declared.SheetAnswer.{SheetAnswer}
-use Rattle.sheet.specs.Answers.{paper}
+use Rattle.sheet.specs.Answers.{paperSheet}
 use Rattle.capi.specs.Flat.{flatSheet}
 use Rattle.capi.proofs.Structs.{sheet-refused}
 use Rattle.capi.proofs.telling.tell_sheet.Statement.{statement}
@@ -23,10 +23,10 @@ placed-of-requires : tie.Need-placed-of-requires
 placed-of-requires c κs = search needs
 
 returns : tie.Need-returns
-returns c = sym (ap (λ (a : SheetAnswer). flatSheet (paper a)) (c .enum-told .given .1))
+returns c = sym (ap (λ (a : SheetAnswer). flatSheet (paperSheet a)) (c .enum-told .given .1))
 
 returns-2 : tie.Need-returns-2
-returns-2 c = sheet-refused (c .before .before .before .before .answer .given .0 .0) (c .before .before .number-of .ensures) (c .before .row-of .ensures) (c .placed-of .ensures) ∙ sym (ap (λ (a : SheetAnswer). flatSheet (paper a)) (c .before .before .before .before .answer .given .1))
+returns-2 c = sheet-refused (c .before .before .before .before .answer .given .0 .0) (c .before .before .number-of .ensures) (c .before .row-of .ensures) (c .placed-of .ensures) ∙ sym (ap (λ (a : SheetAnswer). flatSheet (paperSheet a)) (c .before .before .before .before .answer .given .1))
 
 pub tell-sheet-spec : {M : Type 1} → statement M
 tell-sheet-spec =

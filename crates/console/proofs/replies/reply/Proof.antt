@@ -27,11 +27,11 @@ enum-known-request-2 c = search needs
 read-four-requires : tie.Need-read-four-requires
 read-four-requires c κs = search needs
 
-asked-of-requires : tie.Need-asked-of-requires
-asked-of-requires c κs = search needs
+gas-ask-of-requires : tie.Need-gas-ask-of-requires
+gas-ask-of-requires c κs = search needs
 
 reply-gas-requires : tie.Need-reply-gas-requires
-reply-gas-requires c κs = let s = c .before .before .before .before .before .before .before .before .before in (rw (c .before .asked-of .ensures) (ready (s .args .sheet .now) (c .before .before .read-four .result) (s .args .verdict) (s .pre .0)), s .pre .1 .heats-are)
+reply-gas-requires c κs = let s = c .before .before .before .before .before .before .before .before .before in (rw (c .before .gas-ask-of .ensures) (ready (s .args .sheet .now) (c .before .before .read-four .result) (s .args .verdict) (s .pre .0)), s .pre .1 .heats-are)
 
 enum-told-2 : tie.Need-enum-told-2
 enum-told-2 c = search needs
@@ -67,7 +67,7 @@ same-length-3 : tie.Need-same-length-3
 same-length-3 c = search needs
 
 returns-3 : tie.Need-returns-3
-returns-3 c = rw (c .before .before .before .before .before .before .before .request2 .given .1) (rw (c .before .before .before .before .asked-of .ensures, c .before .before .before .before .before .read-four .ensures) at (c .before .before .reply-gas .ensures))
+returns-3 c = rw (c .before .before .before .before .before .before .before .request2 .given .1) (rw (c .before .before .before .before .gas-ask-of .ensures, c .before .before .before .before .before .read-four .ensures) at (c .before .before .reply-gas .ensures))
 
 same-length-4 : tie.Need-same-length-4
 same-length-4 c = search needs
@@ -99,7 +99,7 @@ reply-spec =
     reply-burn-requires
     enum-known-request-2
     read-four-requires
-    asked-of-requires
+    gas-ask-of-requires
     reply-gas-requires
     enum-told-2
     reply-walk-requires

@@ -1,5 +1,5 @@
 use Rattle.console.specs.Answers.{Ready}
-use Rattle.console.specs.declared.requests.Asked.{Asked}
+use Rattle.console.specs.declared.requests.GasAsk.{GasAsk}
 use mathlib.Core.Path.{subst}
 use Rattle.signed.specs.Zed.{back}
 use mir.Val.{SFits}
@@ -12,7 +12,7 @@ enum-known-asked : tie.Need-enum-known-asked
 enum-known-asked c = search needs
 
 tell-gas-requires : tie.Need-tell-gas-requires
-tell-gas-requires c κs = let s = c .before .before .before .before .before .before in (subst (λ (a : Asked). Ready a (s .args .sheet .now)) (c .before .before .asked .given .1) (s .pre .0), s .pre .1)
+tell-gas-requires c κs = let s = c .before .before .before .before .before .before in (subst (λ (a : GasAsk). Ready a (s .args .sheet .now)) (c .before .before .asked .given .1) (s .pre .0), s .pre .1)
 
 enum-known-asked-2 : tie.Need-enum-known-asked-2
 enum-known-asked-2 c = search needs

@@ -1,7 +1,7 @@
 use borrow.Author.Needs.{needs}
 use mathlib.Core.Path.{_≡_, refl, sym, ap, _∙_}
 use Rattle.refusal.specs.Refusals.{gives, first}
-use Rattle.refusal.specs.OrdersLaws.{stopped, passed, given}
+use Rattle.refusal.specs.OrdersLaws.{stopped-first, passed, given}
 use Rattle.gas.specs.Answers.{paperGas, chargeLines, temperatureLines}
 use Rattle.gas.specs.Burning.{document01, gasOf}
 use Rattle.gas.proofs.inner.admit_at.Statement.{statement}
@@ -23,7 +23,7 @@ covered-requires : tie.Need-covered-requires
 covered-requires c κs = search needs
 
 returns : tie.Need-returns
-returns c = stopped (chargeLines document01 (c .before .before .before .before .args .charge)) (temperatureLines (c .before .before .before .before .args .t .0)) _ _ (c .before .r .given .0 .0) (ap paperGas (sym (c .before .r .given .1)) ∙ c .before .before .before .admit .ensures)
+returns c = stopped-first (chargeLines document01 (c .before .before .before .before .args .charge)) (temperatureLines (c .before .before .before .before .args .t .0)) _ _ (c .before .r .given .0 .0) (ap paperGas (sym (c .before .r .given .1)) ∙ c .before .before .before .admit .ensures)
 
 returns-2 : tie.Need-returns-2
 returns-2 c =

@@ -3,7 +3,7 @@ use mathlib.Core.Path.{_≡_, sym, ap, _∙_}
 use mathlib.Core.List.{[]}
 use Rattle.refusal.specs.Refusals.{first}
 use Rattle.signed.specs.Zed.{up}
-use Rattle.refusal.specs.OrdersLaws.{told-through, stopped}
+use Rattle.refusal.specs.OrdersLaws.{told-through, stopped-first}
 use Rattle.gas.specs.AnswersLaws.{readable-of, past-heat}
 use Rattle.gas.specs.Answers.{paperGas, heatOrder}
 use Rattle.gas.specs.Heat.{contentAbove15}
@@ -39,7 +39,7 @@ returns c =
 returns-2 : tie.Need-returns-2
 returns-2 c =
     let s = c .before .before .before .before .before in
-    stopped (heatOrder document01 (s .args .charge) (s .args .t .0) (s .args .sheet .now)) [] _ _ (c .before .r .given .0 .0) (ap paperGas (sym (c .before .r .given .1)) ∙ told (c .before .before .before))
+    stopped-first (heatOrder document01 (s .args .charge) (s .args .t .0) (s .args .sheet .now)) [] _ _ (c .before .r .given .0 .0) (ap paperGas (sym (c .before .r .given .1)) ∙ told (c .before .before .before))
 
 pub content-judged-spec : {M : Type 1} → statement M
 content-judged-spec = tie.close (tie.spec admit-at-requires enum-known-gas content-at-requires enum-known-r returns returns-2)

@@ -7,7 +7,7 @@ use mir.Syntax.{w64}
 use mir.Val.{SFits}
 use Rattle.signed.specs.Zed.{back}
 use Rattle.refusal.specs.Refusals.{gives, first}
-use Rattle.refusal.specs.OrdersLaws.{told-through, stopped}
+use Rattle.refusal.specs.OrdersLaws.{told-through, stopped-first}
 use Rattle.gas.specs.Burning.{document01, gasOf}
 use Rattle.gas.specs.Answers.{paperGas, heatOrder}
 use Rattle.gas.specs.AnswersLaws.{Readable, readable-of, past-heat}
@@ -57,7 +57,7 @@ returns c =
 returns-2 : tie.Need-returns-2
 returns-2 c =
     let s = c .before .before .before .before .before in
-    stopped (heatOrder document01 (s .args .charge) (s .args .t .0) (s .args .sheet .now)) [] _ _ (c .before .r .given .0 .0) (ap paperGas (sym (c .before .r .given .1)) ∙ told (c .before .before .before))
+    stopped-first (heatOrder document01 (s .args .charge) (s .args .t .0) (s .args .sheet .now)) [] _ _ (c .before .r .given .0 .0) (ap paperGas (sym (c .before .r .given .1)) ∙ told (c .before .before .before))
 
 pub station-judged-spec : {M : Type 1} → statement M
 station-judged-spec =

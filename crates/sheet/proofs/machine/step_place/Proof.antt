@@ -4,8 +4,8 @@ use native.Mathlib.Omega.{arith}
 use borrow.Author.Tests.{lt-ltb, le-ltb}
 use borrow.Author.Needs.{needs}
 use Rattle.rows.specs.Limits.{tableRows}
-use Rattle.text.specs.Reading.{isDigit}
-use Rattle.text.specs.ReadingLaws.{digit-range}
+use Rattle.text.specs.Wholes.{isDigit}
+use Rattle.text.specs.WholesLaws.{digit-range}
 use Rattle.sheet.specs.inner.Machine.{stepPlace}
 use Rattle.sheet.proofs.machine.step_place.Statement.{statement}
 use Rattle.sheet.proofs.machine.step_place.Tie as tie

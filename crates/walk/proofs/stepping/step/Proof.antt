@@ -1,7 +1,7 @@
 use borrow.Author.Needs.{needs}
 use mathlib.Core.List.{List, []}
 use Prim.Native.Nat.{ℕ}
-use Rattle.gas.specs.Answers.{Inverse}
+use Rattle.gas.specs.Answers.{Inverted}
 use Rattle.gas.specs.Heat.{gasHeat}
 use Rattle.gas.specs.Burning.{document01, Burns}
 use Rattle.gas.specs.declared.TemperatureAnswer.the-variants.{At}
@@ -22,7 +22,7 @@ burning-of (burning b f) = b
 
 -- what the search finds
 found-there : (c : tie.After-t) → let s = c .before .before .before .before .before .before .before .before .before .before .before .before .before .before in let a = c .before .before .before .before .before .before .before .before .before .asked .given .0 .0 in
-    Inverse [] (gasHeat document01 (s .args .sheet .now) (a .gas)) (a .target .0) (s .args .looks .now) (At (c .t .given .0 .0) (c .t .given .0 .1 .0)) (c .before .before .before .before .find .last .1 .1 .0)
+    Inverted [] (gasHeat document01 (s .args .sheet .now) (a .gas)) (a .target .0) (s .args .looks .now) (At (c .t .given .0 .0) (c .t .given .0 .1 .0)) (c .before .before .before .before .find .last .1 .1 .0)
 found-there c = rw (c .t .given .1) at (c .before .before .before .before .find .ensures)
 
 asked-of-requires : tie.Need-asked-of-requires

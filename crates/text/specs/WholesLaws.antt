@@ -13,7 +13,7 @@ use mir.Val.{SFits}
 use Rattle.text.specs.Fold.{run}
 use Rattle.text.specs.Decimal.{decimal, decimalZ}
 use Rattle.text.specs.DecimalLaws.{one-digit, last-digit, push-digit, by-digits, digits-run}
-use Rattle.text.specs.Reading.{isDigit, mayFollow, extended, stepDigit, stepDigits, digitsOf, Within, minusFirst, plusOf, minusOf, wholeOf}
+use Rattle.text.specs.Wholes.{isDigit, mayFollow, extended, stepDigit, stepDigits, digitsOf, Within, minusFirst, plusOf, minusOf, wholeOf}
 use Rattle.text.specs.declared.Digits.{Digits}
 use Rattle.text.specs.declared.Digits.the-variants.{Empty, Value, Bad}
 use Rattle.text.specs.declared.Whole.the-variants.{Is}

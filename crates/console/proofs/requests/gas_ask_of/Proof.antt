@@ -3,8 +3,8 @@ use mir.Val.{SFits}
 use mir.Syntax.{w64}
 use mathlib.Core.Path.{refl}
 use borrow.Author.Needs.{needs}
-use Rattle.console.proofs.requests.asked_of.Statement.{statement}
-use Rattle.console.proofs.requests.asked_of.Tie as tie
+use Rattle.console.proofs.requests.gas_ask_of.Statement.{statement}
+use Rattle.console.proofs.requests.gas_ask_of.Tie as tie
 
 enum-known-numbers : tie.Need-enum-known-numbers
 enum-known-numbers c = search needs
