@@ -27,7 +27,8 @@ module _ (p : ℕ → Bool) where
   stop : (n lo hi : ℕ) → hi ≤ lo + 1 → halvings p n lo hi ≡ lookless lo
   unfolding halvings
   stop zero lo hi h = refl
-  stop (suc n) lo hi h = ap (λ (b : Bool). cond b (lookless lo) (looked (middle lo hi) (cond (p (middle lo hi)) (halvings p n (middle lo hi) hi) (halvings p n lo (middle lo hi))))) (le-leb hi (lo + 1) h)
+  stop (suc n) lo hi h =
+      ap (λ (b : Bool). cond b (lookless lo) (looked (middle lo hi) (cond (p (middle lo hi)) (halvings p n (middle lo hi) hi) (halvings p n lo (middle lo hi))))) (le-leb hi (lo + 1) h)
 
   more : (n lo hi : ℕ) → lo + 1 < hi → halvings p (suc n) lo hi ≡ looked (middle lo hi) (cond (p (middle lo hi)) (halvings p n (middle lo hi) hi) (halvings p n lo (middle lo hi)))
   unfolding halvings

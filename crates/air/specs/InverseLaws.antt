@@ -11,7 +11,8 @@ use lib.Dec.{lit<, lit≤}
 use lib.IntN.{ℤ, pos, _+ℤ_, _-ℤ_}
 use lib.ListN.{length}
 use lib.Signed.{_≤ℤ_, _<ℤ_}
-use Rattle.signed.specs.Zed.{up, dn, Is, is-pos, is-self, is-add, is-minus, same-by, le-by, lt-by, le-from, lt-from, leZ-true, leZ-false, lt-parts, le-parts, yes-leZ, no-leZ, eqZ, yes-eqZ, no-eqZ, zed}
+use Rattle.signed.specs.Zed.{up, dn, Is, is-pos, is-self, is-add, is-minus, same-by, le-by, lt-by, le-from, lt-from, leZ-true, leZ-false, lt-parts, le-parts}
+use Rattle.signed.specs.Zed.{yes-leZ, no-leZ, eqZ, yes-eqZ, no-eqZ, zed}
 use Rattle.rows.specs.Limits.{firstKelvin, lastKelvin}
 use Rattle.rows.specs.GrowthLaws.{grows}
 use Rattle.air.specs.Limits.{lookPlaces, coldest, hottest}

@@ -1,4 +1,5 @@
--- The limits of the calls on air (document 01, "The air table" and "Temperature from heat"), each said here once. The constants of src/lib.rt are proved to be these by the promises of the calls that test them.
+-- The limits of the calls on air (document 01, "The air table" and "Temperature from heat"), each said here once. The constants of src/lib.rt are proved to be these by the
+-- promises of the calls that test them.
 use Prim.Native.Nat.{ℕ, _*_}
 use Rattle.rows.specs.Limits.{firstKelvin, lastKelvin}
 

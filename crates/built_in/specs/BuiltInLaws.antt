@@ -133,7 +133,15 @@ module _ (s : List ℕ) (n : length s ≡ sheetNumbers) (t : passes s rowsH ≡ 
     o2-up = omega (arith, o2-cell s i (firstKelvin + i) refl, o2-cell s (suc i) (suc (firstKelvin + i)) (omega arith), up-at i 0 h (omega arith));
     co2-up = omega (arith, co2-cell s i (firstKelvin + i) refl, co2-cell s (suc i) (suc (firstKelvin + i)) (omega arith), up-at i 1 h (omega arith));
     h2o-up = omega (arith, h2o-cell s i (firstKelvin + i) refl, h2o-cell s (suc i) (suc (firstKelvin + i)) (omega arith), up-at i 2 h (omega arith));
-    o2-rise = omega (arith, o2-cell s i (firstKelvin + i) refl, o2-cell s (suc i) (suc (firstKelvin + i)) (omega arith), air-row i (firstKelvin + i) refl, air-row (suc i) (suc (firstKelvin + i)) (omega arith), slow-at i h);
+    o2-rise =
+        omega (
+          arith,
+          o2-cell s i (firstKelvin + i) refl,
+          o2-cell s (suc i) (suc (firstKelvin + i)) (omega arith),
+          air-row i (firstKelvin + i) refl,
+          air-row (suc i) (suc (firstKelvin + i)) (omega arith),
+          slow-at i h,
+        );
   }
 
   row-good : (r : ℕ) → r < tableRows → badRow s r ≡ false

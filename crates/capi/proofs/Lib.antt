@@ -1,2 +1,3 @@
+-- What several proofs of this crate share: the structs, and the promises through them.
 pub mod Structs
 pub mod Promised

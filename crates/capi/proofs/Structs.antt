@@ -28,7 +28,8 @@ pub temperature-found : {m m′ h h′ : ℤ} → m ≡ m′ → h ≡ h′
     → _≡_ {A = TemperatureTold} (record { refusal = 0; row = 0; placed = 0; millikelvin = m; rest = h }) (record { refusal = 0; row = 0; placed = 0; millikelvin = m′; rest = h′ })
 temperature-found e f = rw (e, f) refl
 
-pub psi-found : {m m′ : ℤ} {n : ℕ} → m ≡ m′ → _≡_ {A = PsiTold} (record { refusal = 0; row = 0; placed = 0; millikelvin = m; rest = n }) (record { refusal = 0; row = 0; placed = 0; millikelvin = m′; rest = n })
+pub psi-found : {m m′ : ℤ} {n : ℕ} → m ≡ m′
+    → _≡_ {A = PsiTold} (record { refusal = 0; row = 0; placed = 0; millikelvin = m; rest = n }) (record { refusal = 0; row = 0; placed = 0; millikelvin = m′; rest = n })
 psi-found e = rw e refl
 
 -- ---- refusals: one law for any struct of a number, a row and values
@@ -55,8 +56,10 @@ module _ (r : Refusal) {n k p : ℕ} (e : n ≡ numberOf r) (f : k ≡ rowIn r) 
   pub psi-refused : _≡_ {A = PsiTold} (record { refusal = n; row = k; placed = p; millikelvin = pos 0; rest = 0 }) (flatPsi (refused r))
   psi-refused = flat-refused {A = Found} {S = PsiTold} (λ n k p a. record { refusal = n; row = k; placed = p; millikelvin = a .mk; rest = up (a .left) }) notFound r e f g
 
-  pub station-refused : _≡_ {A = StationTold} (record { refusal = n; row = k; placed = p; millikelvin = ofBits binary64 0; content = ofBits binary64 0; mass = ofBits binary64 0 }) (flatStation (refused r))
-  station-refused = flat-refused {A = StationFigure} {S = StationTold} (λ n k p a. record { refusal = n; row = k; placed = p; millikelvin = a .millikelvin; content = a .content; mass = a .mass }) noFigures r e f g
+  pub station-refused : _≡_ {A = StationTold}
+      (record { refusal = n; row = k; placed = p; millikelvin = ofBits binary64 0; content = ofBits binary64 0; mass = ofBits binary64 0 }) (flatStation (refused r))
+  station-refused =
+      flat-refused {A = StationFigure} {S = StationTold} (λ n k p a. record { refusal = n; row = k; placed = p; millikelvin = a .millikelvin; content = a .content; mass = a .mass }) noFigures r e f g
 
   pub mark-refused : _≡_ {A = MarkTold} (record { refusal = n; row = k; placed = p; counts = 0 }) (flatMark (refused r))
   mark-refused = flat-refused {A = Bool} {S = MarkTold} (λ n k p a. record { refusal = n; row = k; placed = p; counts = cond a 1 0 }) false r e f g

@@ -1,4 +1,5 @@
--- Demand 1 as a caller from C or Rust sees it, in a struct's `refusal`, `row` and `placed`: the number of the first line whose condition holds, its row and whether it has one, exactly then, and 0 exactly
+-- Demand 1 as a caller from C or Rust sees it, in a struct's `refusal`, `row` and `placed`: the number of the first line whose condition holds, its row and whether it has one,
+-- exactly then, and 0 exactly
 -- when none holds. Definitions only.
 use mathlib.Core.Bool.{Bool, true, false, cond}
 use mathlib.Core.List.{List, [], _∷_}

@@ -89,7 +89,8 @@ demand-1-gaskeys_air_heat mk r e = rw e (flat-demand-1 _ _ refl)
 pub demand-1-gaskeys_air_psi : (mk : ℤ) (r : ReadingTold) → r ≡ flatReading (airPsiTold mk) → FlatDemand1 (6 when outside (pos coldest) (pos hottest) mk ∷ []) (r .refusal) (r .row) (r .placed)
 demand-1-gaskeys_air_psi mk r e = rw e (flat-demand-1 _ _ refl)
 
-pub demand-1-gaskeys_air_cp : (kelvin : ℤ) (r : ReadingTold) → r ≡ flatReading (airCpTold kelvin) → FlatDemand1 (6 when outside (pos firstKelvin) (pos lastKelvin) kelvin ∷ []) (r .refusal) (r .row) (r .placed)
+pub demand-1-gaskeys_air_cp : (kelvin : ℤ) (r : ReadingTold) → r ≡ flatReading (airCpTold kelvin)
+    → FlatDemand1 (6 when outside (pos firstKelvin) (pos lastKelvin) kelvin ∷ []) (r .refusal) (r .row) (r .placed)
 demand-1-gaskeys_air_cp kelvin r e = rw e (flat-demand-1 _ _ refl)
 
 pub demand-1-gaskeys_psi_inverse : {target : ℤ} {before after : List ℕ} {r : PsiTold} → PsiIs target before r after → FlatDemand1 (psiOrder (length before) target) (r .refusal) (r .row) (r .placed)
@@ -115,7 +116,8 @@ module _ (w : Weights) (ch : Charge) where
   demand-1-gaskeys_temperature h = rw (h .told) (flat-demand-1 _ _ refl)
 
 -- ---- figures and marks
-pub demand-1-gaskeys_station : (ch : Charge) (mk : ℤ) (s : List ℕ) (r : StationTold) → r ≡ flatStation (stationTold ch mk s) → FlatDemand1 (heatOrder document01 ch mk s) (r .refusal) (r .row) (r .placed)
+pub demand-1-gaskeys_station : (ch : Charge) (mk : ℤ) (s : List ℕ) (r : StationTold) → r ≡ flatStation (stationTold ch mk s)
+    → FlatDemand1 (heatOrder document01 ch mk s) (r .refusal) (r .row) (r .placed)
 demand-1-gaskeys_station ch mk s r e = rw e (flat-demand-1 _ _ refl)
 
 pub demand-1-gaskeys_mark : (kind : ℕ) (x : Float) (key window : ℤ) (r : MarkTold) → r ≡ flatMark (marked (typedOf kind x) key window)
@@ -147,10 +149,12 @@ module _ (lines : List Line) (w : Weights) (s : List ℕ) (start : Charge) (from
   demand-1-gaskeys_walk = record {
     refused-with = λ n k p. (
       λ e. ⊎-elim
-          (λ m. let q = refused-start (m .0) (m .1) in (m .0, m .1, sym (ap (λ (x : WalkTold). x .refusal) q) ∙ e .1, sym (ap (λ (x : WalkTold). x .row) q) ∙ e .2, sym (ap (λ (x : WalkTold). x .placed) q) ∙ e .3))
+          (λ m. let q = refused-start (m .0) (m .1) in
+          (m .0, m .1, sym (ap (λ (x : WalkTold). x .refusal) q) ∙ e .1, sym (ap (λ (x : WalkTold). x .row) q) ∙ e .2, sym (ap (λ (x : WalkTold). x .placed) q) ∙ e .3))
           (λ c. absurd (let z : _≡_ {A = ℕ} 0 1 = sym (e .0) ∙ begun-start c in omega arith))
           (first-or-clear order),
-      λ m. let q = refused-start (m .0) (m .1) in (ap (λ (x : WalkTold). x .begun) q, ap (λ (x : WalkTold). x .refusal) q ∙ m .2, ap (λ (x : WalkTold). x .row) q ∙ m .3, ap (λ (x : WalkTold). x .placed) q ∙ m .4),
+      λ m. let q = refused-start (m .0) (m .1) in
+          (ap (λ (x : WalkTold). x .begun) q, ap (λ (x : WalkTold). x .refusal) q ∙ m .2, ap (λ (x : WalkTold). x .row) q ∙ m .3, ap (λ (x : WalkTold). x .placed) q ∙ m .4),
     );
     began = (
       λ e. ⊎-elim (λ m. absurd (let z : _≡_ {A = ℕ} 0 1 = sym (ap (λ (x : WalkTold). x .begun) (refused-start (m .0) (m .1))) ∙ e in omega arith)) (λ c. c) (first-or-clear order),

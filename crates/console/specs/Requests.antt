@@ -77,7 +77,9 @@ unknownText = 101 ∷ 114 ∷ 114 ∷ 111 ∷ 114 ∷ 9 ∷ 110 ∷ 111 ∷ 32 �
 
 -- error, tab, the request takes other fields
 abbrev pub misfitText : List ℕ
-misfitText = 101 ∷ 114 ∷ 114 ∷ 111 ∷ 114 ∷ 9 ∷ 116 ∷ 104 ∷ 101 ∷ 32 ∷ 114 ∷ 101 ∷ 113 ∷ 117 ∷ 101 ∷ 115 ∷ 116 ∷ 32 ∷ 116 ∷ 97 ∷ 107 ∷ 101 ∷ 115 ∷ 32 ∷ 111 ∷ 116 ∷ 104 ∷ 101 ∷ 114 ∷ 32 ∷ 102 ∷ 105 ∷ 101 ∷ 108 ∷ 100 ∷ 115 ∷ []
+misfitText =
+    101 ∷ 114 ∷ 114 ∷ 111 ∷ 114 ∷ 9 ∷ 116 ∷ 104 ∷ 101 ∷ 32 ∷ 114 ∷ 101 ∷ 113 ∷ 117 ∷ 101 ∷ 115 ∷ 116 ∷ 32 ∷ 116 ∷ 97 ∷ 107 ∷ 101 ∷ 115 ∷ 32 ∷ 111 ∷ 116 ∷ 104 ∷
+    101 ∷ 114 ∷ 32 ∷ 102 ∷ 105 ∷ 101 ∷ 108 ∷ 100 ∷ 115 ∷ []
 
 -- error, tab, not a number: of a typed answer
 abbrev pub noNumberText : List ℕ
@@ -85,7 +87,9 @@ noNumberText = 101 ∷ 114 ∷ 114 ∷ 111 ∷ 114 ∷ 9 ∷ 110 ∷ 111 ∷ 116
 
 -- error, tab, the line has a carriage return
 abbrev pub returnText : List ℕ
-returnText = 101 ∷ 114 ∷ 114 ∷ 111 ∷ 114 ∷ 9 ∷ 116 ∷ 104 ∷ 101 ∷ 32 ∷ 108 ∷ 105 ∷ 110 ∷ 101 ∷ 32 ∷ 104 ∷ 97 ∷ 115 ∷ 32 ∷ 97 ∷ 32 ∷ 99 ∷ 97 ∷ 114 ∷ 114 ∷ 105 ∷ 97 ∷ 103 ∷ 101 ∷ 32 ∷ 114 ∷ 101 ∷ 116 ∷ 117 ∷ 114 ∷ 110 ∷ []
+returnText =
+    101 ∷ 114 ∷ 114 ∷ 111 ∷ 114 ∷ 9 ∷ 116 ∷ 104 ∷ 101 ∷ 32 ∷ 108 ∷ 105 ∷ 110 ∷ 101 ∷ 32 ∷ 104 ∷ 97 ∷ 115 ∷ 32 ∷ 97 ∷ 32 ∷ 99 ∷ 97 ∷ 114 ∷ 114 ∷ 105 ∷ 97 ∷ 103 ∷
+    101 ∷ 32 ∷ 114 ∷ 101 ∷ 116 ∷ 117 ∷ 114 ∷ 110 ∷ []
 
 -- the request of a word: on air, on a gas, on a page
 unfoldable pub otherRequest : List ℕ → Request

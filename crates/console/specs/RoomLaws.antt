@@ -1,4 +1,5 @@
--- No answer is longer than `answerRoom`, for every line, every sheet list and every verdict whose refusal is brief (`Brief`), as all are that the judge or the reader gives, so none is cut where that much room is left: `answer-short`, `answer-whole`;
+-- No answer is longer than `answerRoom`, for every line, every sheet list and every verdict whose refusal is brief (`Brief`), as all are that the judge or the reader gives, so
+-- none is cut where that much room is left: `answer-short`, `answer-whole`;
 -- and a walk over a sheet found good is no longer than `pageRoom` when printed: `page-short`. The longest walk has 100 bytes a step, and its course. Assumes nothing.
 use Prim.Native.Nat.{ℕ, zero, suc, _+_, _-_, _*_, _/_, _%_, _≤_, _<_}
 use mathlib.Core.Path.{_≡_, refl, sym, ap, subst}
@@ -425,7 +426,8 @@ short-quantity verdict b s q NotFour = lit≤ tt
 
 -- ---- marks
 short-marked : (x : Typed) (n : Two) → length (markedText x n) ≤ replyRoom
-short-marked x (AreTwo key window) = told-most verdictText replyRoom (order x key window) (counts x key window) (lit≤ tt) (plain (lit< tt) (plain (lit< tt) few-none)) (λ c. verdict (counts x key window))
+short-marked x (AreTwo key window) =
+    told-most verdictText replyRoom (order x key window) (counts x key window) (lit≤ tt) (plain (lit< tt) (plain (lit< tt) few-none)) (λ c. verdict (counts x key window))
   where
     verdict : (b : Bool) → length (verdictText b) ≤ replyRoom
     verdict true = lit≤ tt

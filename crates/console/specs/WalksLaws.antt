@@ -64,7 +64,8 @@ module _ (layout : Layout) (n : ℕ) (t r : List ℤ) (l : List ℕ) where
   left-next i h =
       let e : n - i ≡ suc (n - (i + 1)) = omega arith in
       let d : lookPlaces * i + lookPlaces ≡ lookPlaces * (i + 1) = omega arith in
-      ap (λ (k : ℕ). shown layout (i + 1) k (drop i t) (drop i r) (drop (lookPlaces * i) l)) e ∙ rw (getD-drop i t 0 (pos 0), getD-drop i r 0 (pos 0), drop-drop 1 i t, drop-drop 1 i r, drop-drop lookPlaces (lookPlaces * i) l, d) (simp (add-zero, add-one))
+      ap (λ (k : ℕ). shown layout (i + 1) k (drop i t) (drop i r) (drop (lookPlaces * i) l)) e
+      ∙ rw (getD-drop i t 0 (pos 0), getD-drop i r 0 (pos 0), drop-drop 1 i t, drop-drop 1 i r, drop-drop lookPlaces (lookPlaces * i) l, d) (simp (add-zero, add-one))
 
   -- the first i steps were put
   pub record Putting (before : List ℕ) (at next : ℕ) (now : List ℕ) (i : ℕ) : Type 0 where
@@ -150,7 +151,8 @@ module _ {a : WalkAnswer} {t r t′ r′ : List ℤ} {l l′ : List ℕ} (told :
   holds et er el =
       let os = outsOf told in
       let n : length os ≡ stepsIn (paperWalk a) = sym (ap stepsIn (k .answer) ∙ steps-in told) in
-      let ft : stepsIn (paperWalk a) ≤ length t′ = room (stepsIn (paperWalk a)) (temperaturesOf os) t′ t (length-map os (λ (o : Out). pos (o .state .mk)) ∙ n) (ap (λ (x : Lists). x .temperatures) (k .lent)) et in
+      let ft : stepsIn (paperWalk a) ≤ length t′ =
+      room (stepsIn (paperWalk a)) (temperaturesOf os) t′ t (length-map os (λ (o : Out). pos (o .state .mk)) ∙ n) (ap (λ (x : Lists). x .temperatures) (k .lent)) et in
       let fr : stepsIn (paperWalk a) ≤ length r′ = room (stepsIn (paperWalk a)) (restsOf os) r′ r (length-map os (λ (o : Out). o .rests) ∙ n) (ap (λ (x : Lists). x .rests) (k .lent)) er in
       record { temperatures = ft; rests = fr; looks = omega arith }
 
@@ -235,8 +237,10 @@ module _ (verdict : SheetAnswer) (s : List ℕ) (fs : List (List ℕ)) (before l
       → walkText (walkTold verdict s (chargeIn later) (getD later 3 (pos 0)) (take (n - startNumbers) (drop startNumbers later))) ≡ walkRequest verdict s fs
   walk-kept (Count k) n e st en h =
       let c : k ≡ 0 + length (valuesOf fs) = count-is fs 0 k (sym e) in
-      let g : (i : ℕ) → i < startNumbers → getD later i (pos 0) ≡ getD (valuesOf fs) i (pos 0) = λ i l. ap (λ (x : List ℤ). getD x i (pos 0)) st ∙ kept-first (pos 0) (valuesOf fs) before i (omega arith) (omega arith) in
-      rw (← e, le-leb startNumbers k (omega arith), en, g 0 (lit< tt), g 1 (lit< tt), g 2 (lit< tt), g 3 (lit< tt)) (ap walkText (steps-alike verdict s (valuesOf fs) before later heldNumbers long (lit< tt) _ _ k (omega arith) (omega arith) st))
+      let g : (i : ℕ) → i < startNumbers → getD later i (pos 0) ≡ getD (valuesOf fs) i (pos 0) =
+      λ i l. ap (λ (x : List ℤ). getD x i (pos 0)) st ∙ kept-first (pos 0) (valuesOf fs) before i (omega arith) (omega arith) in
+      rw (← e, le-leb startNumbers k (omega arith), en, g 0 (lit< tt), g 1 (lit< tt), g 2 (lit< tt), g 3 (lit< tt))
+      (ap walkText (steps-alike verdict s (valuesOf fs) before later heldNumbers long (lit< tt) _ _ k (omega arith) (omega arith) st))
   walk-kept Bad n e st en h = absurd (omega arith)
 
   pub walk-misfit : (numbers : Numbers) (n : ℕ) → numbers ≡ countAll 0 fs → n ≡ heldOf numbers heldNumbers → n < startNumbers → misfitText ≡ walkRequest verdict s fs

@@ -17,7 +17,8 @@ seen-on : (first : Word) (ws : List (List ℕ)) (option i : ℕ) → 2 ≤ i
 seen-on first [] zero i h = refl
 seen-on first [] (suc n) i h = rw (ne-eqb (suc n) 0 (λ e. omega arith)) refl
 seen-on first (w ∷ ws) zero i h = rw (ne-eqb i 1 (λ e. omega arith)) (seen-on first ws (optionAt i (wordOf w)) (suc i) (omega arith))
-seen-on first (w ∷ ws) (suc n) i h = rw (ne-eqb i 1 (λ e. omega arith), ne-eqb (suc n) 0 (λ e. omega arith)) (seen-on first ws (suc n) (suc i) (omega arith) ∙ rw (ne-eqb (suc n) 0 (λ e. omega arith)) refl)
+seen-on first (w ∷ ws) (suc n) i h =
+    rw (ne-eqb i 1 (λ e. omega arith), ne-eqb (suc n) 0 (λ e. omega arith)) (seen-on first ws (suc n) (suc i) (omega arith) ∙ rw (ne-eqb (suc n) 0 (λ e. omega arith)) refl)
 
 pub form-seen : (ws : List (List ℕ)) → formAt (suc (length ws)) (seen noWords 1 ws) ≡ formOf ws
 form-seen [] = refl

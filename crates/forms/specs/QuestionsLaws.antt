@@ -29,7 +29,9 @@ line-kept k a b c d numbers h p q r s =
     let two : stepNumbers * k + 2 ≡ suc (suc (stepNumbers * k)) = omega arith in
     let three : stepNumbers * k + 3 ≡ suc (suc (suc (stepNumbers * k))) = omega arith in
     rw (lt-ltb k keptLines h)
-    (s ∙ (ap (λ (x : List ℤ). set x (stepNumbers * k + 3) d) (r ∙ ap (λ (x : List ℤ). set x (stepNumbers * k + 2) c) (q ∙ ap (λ (x : List ℤ). set x (stepNumbers * k + 1) b) p)) ∙ rw (one, two, three) refl))
+    (s
+    ∙ (ap (λ (x : List ℤ). set x (stepNumbers * k + 3) d) (r ∙ ap (λ (x : List ℤ). set x (stepNumbers * k + 2) c) (q ∙ ap (λ (x : List ℤ). set x (stepNumbers * k + 1) b) p))
+    ∙ rw (one, two, three) refl))
 
 pub line-left : (k : ℕ) (a b c d : ℤ) (numbers : List ℤ) → keptLines ≤ k → numbers ≡ keptLine k a b c d numbers
 line-left k a b c d numbers h = rw (le-ltb k keptLines h) refl
@@ -105,7 +107,8 @@ pub question-printed : (verdict : SheetAnswer) (s : List ℕ) (n : ℕ) (lines :
     → questionPage verdict s n (sets before 0 (numbersIn lines)) ≡ walkPage verdict s (numbersIn lines)
 question-printed verdict s n lines before l h e =
     let p = lines-long 0 n lines e in
-    let g : (i : ℕ) → i < 4 → getD (sets before 0 (numbersIn lines)) i (pos 0) ≡ getD (numbersIn lines) i (pos 0) = λ i m. kept-first (pos 0) (numbersIn lines) before i (omega (arith, p .0, p .1)) (omega arith) in
+    let g : (i : ℕ) → i < 4 → getD (sets before 0 (numbersIn lines)) i (pos 0) ≡ getD (numbersIn lines) i (pos 0) =
+    λ i m. kept-first (pos 0) (numbersIn lines) before i (omega (arith, p .0, p .1)) (omega arith) in
     let m : stepNumbers * min n keptLines - stepNumbers ≡ min (stepNumbers * n) keptNumbers - stepNumbers = omega arith in
     rw (g 0 (lit< tt), g 1 (lit< tt), g 2 (lit< tt), g 3 (lit< tt), m)
     (ap printedWalk (steps-alike verdict s (numbersIn lines) before (sets before 0 (numbersIn lines)) keptNumbers l (lit< tt) _ _ (stepNumbers * n) (omega (arith, p .0, p .1)) (omega arith) refl))

@@ -1,7 +1,8 @@
 -- A number n by a power of two, from its two digits to the base 2^m: what stands above and below, and whether a rest is left. Assumes nothing.
 use mathlib.Core.Path.{_≡_, refl, sym, ap, _∙_}
 use Prim.Native.Nat.{ℕ, zero, suc, _+_, _*_, _/_, _%_, _^_, _≤_, _<_}
-use native.Mathlib.Nat.{add-comm, zero-mul, mul-assoc, mul-add, mul-pos, mul-le-mul, mul-le-mul-left, mul-add-div-right, mul-add-mod-self-right, div-add-mod', div-lt-iff-lt-mul, lt-of-le-of-lt, lt-of-lt-of-le, le-of-lt, zero-lt-suc}
+use native.Mathlib.Nat.{add-comm, zero-mul, mul-assoc, mul-add, mul-pos, mul-le-mul, mul-le-mul-left, mul-add-div-right, mul-add-mod-self-right, div-add-mod'}
+use native.Mathlib.Nat.{div-lt-iff-lt-mul, lt-of-le-of-lt, lt-of-lt-of-le, le-of-lt, zero-lt-suc}
 use native.Mathlib.Omega.{arith}
 use lib.Dec.{lit<, lit≤}
 use lib.Pow.{split, shr-shr, field, mod-mod-pow, mod-pow-add, pow-pos, pow-mono}

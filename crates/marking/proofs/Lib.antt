@@ -1,3 +1,4 @@
+-- What several proofs of this crate share.
 pub mod Spans
 pub mod Patterns
 pub mod Digits

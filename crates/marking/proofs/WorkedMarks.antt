@@ -30,7 +30,8 @@ unfolding near outOfRange inZ ofBits
 exact-kelvins = (refl, refl)
 
 -- 0.1 kelvins is a little more than 100 mK, though one float product by 1,000 gives 100.0
-tenth : (marked (kelvins 0x3fb9_9999_9999_999a) (pos 100) (pos 0) ≡ missed) × (marked (kelvins 0x3fb9_9999_9999_999a) (pos 99) (pos 1) ≡ missed) × (marked (kelvins 0x3fb9_9999_9999_999a) (pos 101) (pos 1) ≡ counted)
+tenth : (marked (kelvins 0x3fb9_9999_9999_999a) (pos 100) (pos 0) ≡ missed) × (marked (kelvins 0x3fb9_9999_9999_999a) (pos 99) (pos 1) ≡ missed)
+    × (marked (kelvins 0x3fb9_9999_9999_999a) (pos 101) (pos 1) ≡ counted)
 unfolding near outOfRange inZ ofBits
 tenth = (refl, refl, refl)
 
@@ -85,11 +86,13 @@ unfolding near outOfRange inZ ofBits
 largest = refl
 
 -- both sides of each limit, before 11 is asked
-limits : (marked Blank (pos 0) (pos 100000) ≡ refuses 11) × (marked Blank (pos 0) (pos 100001) ≡ refuses 12) × (marked Blank (pos 0) (negℤ (pos 1)) ≡ refuses 12) × (marked Blank (negℤ (pos 1000000000001)) (pos 0) ≡ refuses 12)
+limits : (marked Blank (pos 0) (pos 100000) ≡ refuses 11) × (marked Blank (pos 0) (pos 100001) ≡ refuses 12)
+    × (marked Blank (pos 0) (negℤ (pos 1)) ≡ refuses 12) × (marked Blank (negℤ (pos 1000000000001)) (pos 0) ≡ refuses 12)
 unfolding near outOfRange inZ
 limits = (refl, refl, refl, refl)
 
 -- an infinity, and a NaN's pattern, quiet or signalling, of either sign
-no-numbers : (marked (Kelvins (inf true)) (pos 0) (pos 0) ≡ refuses 11) × (marked (content 0x7ff0_0000_0000_0001) (pos 0) (pos 0) ≡ refuses 11) × (marked (content 0xfff8_0000_0000_0000) (pos 0) (pos 100001) ≡ refuses 12)
+no-numbers : (marked (Kelvins (inf true)) (pos 0) (pos 0) ≡ refuses 11) × (marked (content 0x7ff0_0000_0000_0001) (pos 0) (pos 0) ≡ refuses 11)
+    × (marked (content 0xfff8_0000_0000_0000) (pos 0) (pos 100001) ≡ refuses 12)
 unfolding near outOfRange inZ ofBits
 no-numbers = (refl, refl, refl)

@@ -79,7 +79,9 @@ module _ (rows : List ℕ) (e : length rows ≡ tableRows) (t : T (growing rows)
       ⊎-elim (λ h. omega (arith, column-low rows k h))
       (λ l.
       ⊎-elim (λ h. omega (arith, column-high rows k e h))
-      (λ u. ⊎-elim (λ q. rw q (le-refl _)) (λ h. le-of-lt (grows _<_ (λ x y z. lt-trans) (column rows) firstKelvin lastKelvin (λ j. column-step rows j e t) k lastKelvin l h (le-refl _))) (eq-or-lt-of-le u))
+      (λ u. ⊎-elim (λ q. rw q (le-refl _))
+      (λ h. le-of-lt (grows _<_ (λ x y z. lt-trans) (column rows) firstKelvin lastKelvin (λ j. column-step rows j e t) k lastKelvin l h (le-refl _)))
+      (eq-or-lt-of-le u))
       (lt-or-le lastKelvin k))
       (lt-or-le k firstKelvin)
     where

@@ -1,3 +1,4 @@
+-- What several proofs of this crate share.
 pub mod Reading
 pub mod StepRule
 pub mod Copied

@@ -30,7 +30,11 @@ module _ (s : List ℕ) (k : ℕ) where
   unfolding breaksStep
   rise-decides e e′ x f f′ y g g′ z a a′ =
       rw (e, e′, a, a′, add-one k)
-      (simp (le-ltb (o2 s (suc k)) (o2 s k) (omega (arith, ap (o2 s) (add-one k))), le-ltb (co2 s (suc k)) (co2 s k) (omega (arith, ap (co2 s) (add-one k))), le-ltb (h2o s (suc k)) (h2o s k) (omega (arith, ap (h2o s) (add-one k)))))
+      (simp (
+        le-ltb (o2 s (suc k)) (o2 s k) (omega (arith, ap (o2 s) (add-one k))),
+        le-ltb (co2 s (suc k)) (co2 s k) (omega (arith, ap (co2 s) (add-one k))),
+        le-ltb (h2o s (suc k)) (h2o s k) (omega (arith, ap (h2o s) (add-one k))),
+      ))
 
 -- a figure of the lent column is air's
 pub air-figure : (rows : List ℕ) (k : ℕ) {n : ℕ} → rows ≡ rowsH → n ≡ column rows k → n ≡ airH k

@@ -22,14 +22,17 @@ use Rattle.sheet.specs.IsSheet.{firstBadRow, Accepted}
 use Rattle.sheet.specs.SheetLaws.{no-bad-row, rows-before}
 
 -- ---- a text is read as a list exactly where it is the sheet of that list
-pub read-of-sheet : {before later : List ℕ} {a : SheetAnswer} (numbers : List ℕ) → Numbers numbers → length before ≡ sheetNumbers → SheetRead (sheetText numbers) before a later → (a ≡ Good) × (later ≡ numbers)
+pub read-of-sheet : {before later : List ℕ} {a : SheetAnswer} (numbers : List ℕ) → Numbers numbers → length before ≡ sheetNumbers
+    → SheetRead (sheetText numbers) before a later → (a ≡ Good) × (later ≡ numbers)
 read-of-sheet {before} numbers g n p =
     one-read_sheet p (record { form = sheetOf numbers (record { good = g; is = refl }); told = rw (eq-eqb (length before) sheetNumbers n) refl; list = refl })
 
 pub sheet-of-read : {text before later : List ℕ} → SheetRead text before Good later → (length before ≡ sheetNumbers) × IsSheet text later
 sheet-of-read {text} {before} {later} p = go (eqb (length before) sheetNumbers) (p .form) refl (p .told) (p .list)
   where
-    go : (x : Bool) (f : Form text) → eqb (length before) sheetNumbers ≡ x → gives tt ≡ first (1 when not x ∷ 2 at-place badRowOf f when breaks f ∷ []) (tt {0}) → later ≡ numbersOf f → (length before ≡ sheetNumbers) × IsSheet text later
+    go : (x : Bool) (f : Form text) → eqb (length before) sheetNumbers ≡ x
+        → gives tt ≡ first (1 when not x ∷ 2 at-place badRowOf f when breaks f ∷ []) (tt {0}) → later ≡ numbersOf f
+        → (length before ≡ sheetNumbers) × IsSheet text later
     go false f q e l = absurd (let z : _≡_ {A = ℕ} 0 1 = cc in omega arith)
     go true (noSheet r b) q e l = absurd (let z : _≡_ {A = ℕ} 0 1 = cc in omega arith)
     go true (sheetOf numbers h) q e l = (eqb-true _ _ q, rw l h)

@@ -78,7 +78,8 @@ steady-no gas k l u h = step-kept (laid gas) k record {
   o2-rise = omega (arith, laid-o2 gas k l (omega arith), laid-o2 gas (suc k) (omega arith) u, h .slow);
 }
 
-row-good : (gas : ℕ → ℕ → ℕ) (r : ℕ) → r < tableRows → ((k : ℕ) → firstKelvin ≤ k → k ≤ firstKelvin + r → Small gas k) → ((k : ℕ) → firstKelvin ≤ k → k < firstKelvin + r → Steady gas k) → badRow (laid gas) r ≡ false
+row-good : (gas : ℕ → ℕ → ℕ) (r : ℕ) → r < tableRows → ((k : ℕ) → firstKelvin ≤ k → k ≤ firstKelvin + r → Small gas k)
+    → ((k : ℕ) → firstKelvin ≤ k → k < firstKelvin + r → Steady gas k) → badRow (laid gas) r ≡ false
 row-good gas zero h f g = small-no gas firstKelvin (omega arith) (omega arith) (f firstKelvin (omega arith) (omega arith))
 row-good gas (suc r) h f g =
     let a : overLimit (laid gas) (firstKelvin + suc r) ≡ false = small-no gas (firstKelvin + suc r) (omega arith) (omega arith) (f (firstKelvin + suc r) (omega arith) (omega arith)) in
@@ -156,7 +157,8 @@ module _ (m : ℕ) (l : firstKelvin < m) (u : m ≤ lastKelvin) where
       let g = H-grows k (omega arith) (omega arith) in
       let f = air-from k (omega arith) (omega arith) in
       let a : o2 (laid (oneMore m)) k ≡ 4 * (airH k - airH firstKelvin) = laid-o2 (oneMore m) k (omega arith) (omega arith) ∙ same-elsewhere 0 k (omega arith) in
-      let b : o2 (laid (oneMore m)) (suc k) ≡ 4 * (airH (suc k) - airH firstKelvin) + 1 = subst (λ (x : ℕ). o2 (laid (oneMore m)) x ≡ 4 * (airH x - airH firstKelvin) + 1) (sym e) (laid-o2 (oneMore m) m (omega arith) u ∙ one-more-there) in
+      let b : o2 (laid (oneMore m)) (suc k) ≡ 4 * (airH (suc k) - airH firstKelvin) + 1 =
+      subst (λ (x : ℕ). o2 (laid (oneMore m)) x ≡ 4 * (airH x - airH firstKelvin) + 1) (sym e) (laid-o2 (oneMore m) m (omega arith) u ∙ one-more-there) in
       steep-breaks (laid (oneMore m)) k (omega arith)
 
   row-bad : (r : ℕ) → firstKelvin + r ≡ m → badRow (laid (oneMore m)) r ≡ true

@@ -60,10 +60,12 @@ module _ (r : ℕ) (h : r < tableRows) where
   up-1 v a b l e = kelvin-up v (firstKelvin + r) a b l e (begins-0 (firstKelvin + r) (firstKelvin + r) (omega arith) refl)
 
   up-2 : (v a b : ℕ) (l : List ℕ) → v ≡ (firstKelvin + r) / 100 → Goes (filled (Going (place r 0 v true a b)) l) (place r 0 (firstKelvin + r) true a b)
-  up-2 v a b l e = on (kelvin-up v ((firstKelvin + r) / 10) a b l (omega arith) (begins-1 (firstKelvin + r) ((firstKelvin + r) / 10) (omega arith) refl)) (λ m. up-1 ((firstKelvin + r) / 10) a b m refl)
+  up-2 v a b l e =
+      on (kelvin-up v ((firstKelvin + r) / 10) a b l (omega arith) (begins-1 (firstKelvin + r) ((firstKelvin + r) / 10) (omega arith) refl)) (λ m. up-1 ((firstKelvin + r) / 10) a b m refl)
 
   up-3 : (v a b : ℕ) (l : List ℕ) → v ≡ (firstKelvin + r) / 1000 → 0 < v → Goes (filled (Going (place r 0 v true a b)) l) (place r 0 (firstKelvin + r) true a b)
-  up-3 v a b l e q = on (kelvin-up v ((firstKelvin + r) / 100) a b l (omega arith) (begins-2 (firstKelvin + r) ((firstKelvin + r) / 100) (omega arith) refl)) (λ m. up-2 ((firstKelvin + r) / 100) a b m refl)
+  up-3 v a b l e q =
+      on (kelvin-up v ((firstKelvin + r) / 100) a b l (omega arith) (begins-2 (firstKelvin + r) ((firstKelvin + r) / 100) (omega arith) refl)) (λ m. up-2 ((firstKelvin + r) / 100) a b m refl)
 
   kelvin-rest : (v a b : ℕ) (l : List ℕ) → begins (firstKelvin + r) v ≡ true → Goes (filled (Going (place r 0 v true a b)) l) (place r 0 (firstKelvin + r) true a b)
   kelvin-rest v a b l e =
@@ -71,7 +73,8 @@ module _ (r : ℕ) (h : r < tableRows) where
       (λ q. subst (λ (x : ℕ). Goes (filled (Going (place r 0 x true a b)) l) (place r 0 (firstKelvin + r) true a b)) (sym q) (here _ l))
       (up-1 v a b l) (up-2 v a b l) (λ q. up-3 v a b l q (begins-some (firstKelvin + r) v e))
 
-  kelvin-on : (v : ℕ) (s : Bool) (a b : ℕ) (l : List ℕ) → (s ≡ false → v ≡ 0) → (s ≡ true → begins (firstKelvin + r) v ≡ true) → Goes (filled (Going (place r 0 v s a b)) l) (place r 0 (firstKelvin + r) true a b)
+  kelvin-on : (v : ℕ) (s : Bool) (a b : ℕ) (l : List ℕ) → (s ≡ false → v ≡ 0) → (s ≡ true → begins (firstKelvin + r) v ≡ true)
+      → Goes (filled (Going (place r 0 v s a b)) l) (place r 0 (firstKelvin + r) true a b)
   kelvin-on v true a b l hs hb = kelvin-rest v a b l (hb refl)
   kelvin-on v false a b l hs hb = rw (hs refl) (one _ (decimal (firstKelvin + r)) _ l (kelvin-run r a b l h))
 
@@ -87,7 +90,8 @@ module _ (r : ℕ) (h : r < tableRows) where
   from-0 : (v : ℕ) (s : Bool) (a b : ℕ) (l : List ℕ) → (s ≡ false → v ≡ 0) → (s ≡ true → begins (firstKelvin + r) v ≡ true) → Goes (filled (Going (place r 0 v s a b)) l) (place (r + 1) 0 0 false 0 0)
   from-0 v s a b l hs hb = on (on (kelvin-on v s a b l hs hb) (λ m. one _ (9 ∷ []) _ m (tab-0 r m h a b))) (λ m. from-1 0 false a b m (λ q. refl))
 
-  row-on : (f v : ℕ) (s : Bool) (a b : ℕ) (l : List ℕ) → f ≤ 3 → (s ≡ false → v ≡ 0) → (f ≡ 0 → s ≡ true → begins (firstKelvin + r) v ≡ true) → Goes (filled (Going (place r f v s a b)) l) (place (r + 1) 0 0 false 0 0)
+  row-on : (f v : ℕ) (s : Bool) (a b : ℕ) (l : List ℕ) → f ≤ 3 → (s ≡ false → v ≡ 0) → (f ≡ 0 → s ≡ true → begins (firstKelvin + r) v ≡ true)
+      → Goes (filled (Going (place r f v s a b)) l) (place (r + 1) 0 0 false 0 0)
   row-on zero v s a b l hf hs hb = from-0 v s a b l hs (hb refl)
   row-on (suc zero) v s a b l hf hs hb = from-1 v s a b l hs
   row-on (suc (suc zero)) v s a b l hf hs hb = from-2 v s a b l hs
@@ -112,7 +116,8 @@ finish t p l o = go (ltb (p .row) tableRows) refl
     go : (z : Bool) → ltb (p .row) tableRows ≡ z → Finish p
     go true e =
         let h : p .row < tableRows = ltb-true _ _ e in
-        finish-of p l (on (row-on (p .row) h (p .field) (p .value) (p .seen) (p .first) (p .second) l (o .fields) (o .none) (o .kelvin)) (λ m. rows-on (tableRows - (p .row + 1)) (p .row + 1) m (omega arith)))
+        finish-of p l
+        (on (row-on (p .row) h (p .field) (p .value) (p .seen) (p .first) (p .second) l (o .fields) (o .none) (o .kelvin)) (λ m. rows-on (tableRows - (p .row + 1)) (p .row + 1) m (omega arith)))
     go false e =
         let h : tableRows ≤ p .row = ltb-false _ _ e in
         let k : p .row ≤ tableRows = o .rows in
@@ -188,7 +193,8 @@ feeds-head (suc (suc zero)) k a b = simp (feeds-append, feeds-decimal)
 feeds-head (suc (suc (suc n))) k a b = simp (feeds-append, feeds-decimal)
 
 feeds-sofar : (p : Place) → feeds (sofar p) ≡ 0
-feeds-sofar p = feeds-append (headOf (p .field) (firstKelvin + p .row) (p .first) (p .second)) _ ∙ rw (feeds-head (p .field) (firstKelvin + p .row) (p .first) (p .second), feeds-spelled (p .seen) (p .value)) refl
+feeds-sofar p =
+    feeds-append (headOf (p .field) (firstKelvin + p .row) (p .first) (p .second)) _ ∙ rw (feeds-head (p .field) (firstKelvin + p .row) (p .first) (p .second), feeds-spelled (p .seen) (p .value)) refl
 
 pub feeds-at : (text : List ℕ) (p : Place) → run step start text ≡ Going p → feeds text ≡ p .row
 feeds-at text p e =
@@ -213,7 +219,15 @@ died (b ∷ xs) p r e = go (step (Going p) b) refl (died xs) e
     go (Bad q) k ih e = record { front = []; key = b; back = xs; stands = p; split = refl; there = refl; dead = k ∙ (sym (bad-stays q xs) ∙ e) }
     go (Going q) k ih e =
         let d = ih q r e in
-        record { front = b ∷ d .front; key = d .key; back = d .back; stands = d .stands; split = ap (λ (x : List ℕ). b ∷ x) (d .split); there = ap (λ (s : State). run step s (d .front)) k ∙ d .there; dead = d .dead }
+        record {
+          front = b ∷ d .front;
+          key = d .key;
+          back = d .back;
+          stands = d .stands;
+          split = ap (λ (x : List ℕ). b ∷ x) (d .split);
+          there = ap (λ (s : State). run step s (d .front)) k ∙ d .there;
+          dead = d .dead;
+        }
 
 -- a byte kills only in its own row
 dies-in-row : (p : Place) (b r : ℕ) → step (Going p) b ≡ Bad r → p .row ≡ r
@@ -252,7 +266,8 @@ bad-row-is text r (byte p b rest x g n f) = go (alive-of p g .0) (alive-of p g .
     go : (q : Place) → run step start p ≡ Going q → (s : State) → step (Going q) b ≡ s → (wholeSheet (run step start text) ≡ false) × (rowOf (run step start text) ≡ r)
     go q e (Going q2) k = absurd (n (going-begins (p ++ (b ∷ [])) q2 (run-append step start p (b ∷ []) ∙ (ap (λ (s : State). step s b) e ∙ k))))
     go q e (Bad r2) k =
-        let t : run step start text ≡ Bad r2 = ap (run step start) x ∙ (run-append step start p (b ∷ rest) ∙ (ap (λ (s : State). run step (step s b) rest) e ∙ (ap (λ (s : State). run step s rest) k ∙ bad-stays r2 rest))) in
+        let t : run step start text ≡ Bad r2 =
+        ap (run step start) x ∙ (run-append step start p (b ∷ rest) ∙ (ap (λ (s : State). run step (step s b) rest) e ∙ (ap (λ (s : State). run step s rest) k ∙ bad-stays r2 rest))) in
         (ap wholeSheet t, ap rowOf t ∙ (sym (dies-in-row q b r2 k) ∙ (sym (feeds-at p q e) ∙ f)))
 bad-row-is text r (short g n f) = go (alive-of text g .0) (alive-of text g .1)
   where

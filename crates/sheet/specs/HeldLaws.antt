@@ -140,7 +140,8 @@ rows-more r a b c l h =
     let q : suc (suc (3 * r)) < length l = h in
     rw (agree r l (three-of l (3 * r) a b c) (three-old l (3 * r) a b c q), three-0 l (3 * r) a b c q, three-1 l (3 * r) a b c q, three-2 l (3 * r) a b c q) refl
 
-held-feed : (t : List ℕ) (r n v : ℕ) (s : Bool) (a b : ℕ) (l : List ℕ) (x : ℕ) → Held t (place r (suc (suc (suc n))) v s a b) l → r < tableRows → (eqb x 10 && s) ≡ true → Held (t ++ (x ∷ [])) (after (place r (suc (suc (suc n))) v s a b)) (storedPlace (place r (suc (suc (suc n))) v s a b) x l)
+held-feed : (t : List ℕ) (r n v : ℕ) (s : Bool) (a b : ℕ) (l : List ℕ) (x : ℕ) → Held t (place r (suc (suc (suc n))) v s a b) l → r < tableRows
+    → (eqb x 10 && s) ≡ true → Held (t ++ (x ∷ [])) (after (place r (suc (suc (suc n))) v s a b)) (storedPlace (place r (suc (suc (suc n))) v s a b) x l)
 unfolding after rowText
 held-feed t r n v s a b l x o h e =
     let ex : x ≡ 10 = eqb-true x 10 (and-left _ _ e) in
@@ -161,7 +162,8 @@ held-feed t r n v s a b l x o h e =
     }
 
 -- the start of a field after the first
-begun : {t l : List ℕ} {r f a b : ℕ} → t ≡ rowsOf r l ++ sofar (place r f 0 false a b) → length l ≡ sheetNumbers → ((i : ℕ) → i < 3 * r → getD l i 0 ≤ mostFigure) → a ≤ mostFigure → b ≤ mostFigure → r < tableRows → 0 < f → f ≤ 3 → Held t (place r f 0 false a b) l
+begun : {t l : List ℕ} {r f a b : ℕ} → t ≡ rowsOf r l ++ sofar (place r f 0 false a b) → length l ≡ sheetNumbers
+    → ((i : ℕ) → i < 3 * r → getD l i 0 ≤ mostFigure) → a ≤ mostFigure → b ≤ mostFigure → r < tableRows → 0 < f → f ≤ 3 → Held t (place r f 0 false a b) l
 begun text full below first second h hf hg = record {
   text = text;
   full = full;
@@ -176,7 +178,8 @@ begun text full below first second h hf hg = record {
   kelvin = λ z q. absurd (omega arith);
 }
 
-held-end : (t : List ℕ) (r f v : ℕ) (s : Bool) (a b : ℕ) (l : List ℕ) (x : ℕ) → Held t (place r f v s a b) l → r < tableRows → endsField (place r f v s a b) x ≡ true → Held (t ++ (x ∷ [])) (after (place r f v s a b)) (storedPlace (place r f v s a b) x l)
+held-end : (t : List ℕ) (r f v : ℕ) (s : Bool) (a b : ℕ) (l : List ℕ) (x : ℕ) → Held t (place r f v s a b) l → r < tableRows
+    → endsField (place r f v s a b) x ≡ true → Held (t ++ (x ∷ [])) (after (place r f v s a b)) (storedPlace (place r f v s a b) x l)
 unfolding endsField closer whole after
 held-end t r zero v s a b l x o h e =
     let ex : x ≡ 9 = eqb-true x 9 (and-left _ _ e) in

@@ -34,12 +34,14 @@ digit-step p d l h hd t =
     simp (lt-ltb (p .row) tableRows h, is-digit d hd, e, t, ne-eqb (48 + d) 10 (omega arith))
 
 -- the same, to the number that the digit makes
-digit-to : (p : Place) (d : ℕ) (l : List ℕ) (n : ℕ) → p .row < tableRows → d < 10 → takesDigit p d ≡ true → 10 * p .value + d ≡ n → fillByte (filled (Going p) l) (48 + d) ≡ filled (Going (at p n true)) l
+digit-to : (p : Place) (d : ℕ) (l : List ℕ) (n : ℕ) → p .row < tableRows → d < 10 → takesDigit p d ≡ true → 10 * p .value + d ≡ n
+    → fillByte (filled (Going p) l) (48 + d) ≡ filled (Going (at p n true)) l
 unfolding withDigit
 digit-to p d l n h hd t e = digit-step p d l h hd t ∙ ap (λ (v : ℕ). filled (Going (at p v true)) l) e
 
 -- a number field
-pub number-run : (r f a b n : ℕ) (l : List ℕ) → r < tableRows → (f ≡ 0 → ⊥) → n ≤ mostFigure → Runs fillByte (filled (Going (place r f 0 false a b)) l) (decimal n) (filled (Going (place r f n true a b)) l)
+pub number-run : (r f a b n : ℕ) (l : List ℕ) → r < tableRows → (f ≡ 0 → ⊥) → n ≤ mostFigure
+    → Runs fillByte (filled (Going (place r f 0 false a b)) l) (decimal n) (filled (Going (place r f n true a b)) l)
 unfolding takesDigit
 number-run r f a b n l h hf hn =
     digits-run fillByte (λ v s. filled (Going (place r f v s a b)) l) (λ n. n ≤ mostFigure)
@@ -56,7 +58,8 @@ begins-down k v hk h e =
     (λ q. begins-3 k (v / 10) (omega arith) (omega arith))
     (λ q. absurd (omega arith))
 
-pub kelvin-run : (r a b : ℕ) (l : List ℕ) → r < tableRows → Runs fillByte (filled (Going (place r 0 0 false a b)) l) (decimal (firstKelvin + r)) (filled (Going (place r 0 (firstKelvin + r) true a b)) l)
+pub kelvin-run : (r a b : ℕ) (l : List ℕ) → r < tableRows
+    → Runs fillByte (filled (Going (place r 0 0 false a b)) l) (decimal (firstKelvin + r)) (filled (Going (place r 0 (firstKelvin + r) true a b)) l)
 unfolding takesDigit
 kelvin-run r a b l h =
     digits-run fillByte (λ v s. filled (Going (place r 0 v s a b)) l) (λ n. begins (firstKelvin + r) n ≡ true)
@@ -82,7 +85,8 @@ module _ (r : ℕ) (l : List ℕ) (h : r < tableRows) where
   unfolding stepPlace stepEnd endsField closer whole after storedPlace endsRow isDigit
   feed-3 a b c = record { to = simp (lt-ltb r tableRows h) }
 
-  row-run : (a b c : ℕ) → a ≤ mostFigure → b ≤ mostFigure → c ≤ mostFigure → Runs fillByte (filled (rowStart r) l) (rowText (firstKelvin + r) a b c) (filled (rowStart (r + 1)) (sets l (3 * r) (a ∷ b ∷ c ∷ [])))
+  row-run : (a b c : ℕ) → a ≤ mostFigure → b ≤ mostFigure → c ≤ mostFigure
+      → Runs fillByte (filled (rowStart r) l) (rowText (firstKelvin + r) a b c) (filled (rowStart (r + 1)) (sets l (3 * r) (a ∷ b ∷ c ∷ [])))
   unfolding rowText
   row-run a b c ha hb hc =
       and-then (and-then (and-then (and-then (and-then (and-then (and-then (kelvin-run r 0 0 l h) (tab-0 0 0))
@@ -111,13 +115,16 @@ module _ (s l : List ℕ) (hs : length s ≡ sheetNumbers) (hl : length l ≡ sh
   rows-run zero h = record { to = refl }
   rows-run (suc r) h =
       let e : 3 * suc r ≡ suc (suc (suc (3 * r))) = omega arith in
-      let t : sets (cover s l (3 * r)) (3 * r) (getD s (3 * r) 0 ∷ getD s (3 * r + 1) 0 ∷ getD s (3 * r + 2) 0 ∷ []) ≡ cover s l (suc (suc (suc (3 * r)))) = cover-three s l (3 * r) (omega arith) (omega arith) in
+      let t : sets (cover s l (3 * r)) (3 * r) (getD s (3 * r) 0 ∷ getD s (3 * r + 1) 0 ∷ getD s (3 * r + 2) 0 ∷ []) ≡ cover s l (suc (suc (suc (3 * r)))) =
+      cover-three s l (3 * r) (omega arith) (omega arith) in
       and-then (rows-run r (omega arith))
-      (rw (e, sym t, sym (add-one r)) (row-run r (cover s l (3 * r)) (omega arith) (getD s (3 * r) 0) (getD s (3 * r + 1) 0) (getD s (3 * r + 2) 0) (small (3 * r)) (small (3 * r + 1)) (small (3 * r + 2))))
+      (rw (e, sym t, sym (add-one r))
+      (row-run r (cover s l (3 * r)) (omega arith) (getD s (3 * r) 0) (getD s (3 * r + 1) 0) (getD s (3 * r + 2) 0) (small (3 * r)) (small (3 * r + 1)) (small (3 * r + 2))))
 
 pub complete : (s l : List ℕ) → Numbers s → length l ≡ sheetNumbers → run fillByte (filled start l) (sheetText s) ≡ filled (rowStart tableRows) s
 unfolding sheetText
 complete s l g hl =
     let hs : length s ≡ sheetNumbers = g .full in
     rows-run s l hs hl (g .small) tableRows (omega arith) .to
-    ∙ ap (filled (rowStart tableRows)) (ap (λ (x : List ℕ). x ++ drop sheetNumbers l) (take-all sheetNumbers s (omega arith)) ∙ (ap (λ (x : List ℕ). s ++ x) (drop-of-length-le l {i = sheetNumbers} (omega arith)) ∙ append-nil s))
+    ∙ ap (filled (rowStart tableRows))
+    (ap (λ (x : List ℕ). x ++ drop sheetNumbers l) (take-all sheetNumbers s (omega arith)) ∙ (ap (λ (x : List ℕ). s ++ x) (drop-of-length-le l {i = sheetNumbers} (omega arith)) ∙ append-nil s))

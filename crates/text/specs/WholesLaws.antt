@@ -105,7 +105,8 @@ says-step limit s b p h = go (isDigit b) refl s h
 says-run : (limit : ℕ) (s : Digits) (p text : List ℕ) → Says limit p s → Says limit (p ++ text) (run (stepDigits limit) s text)
 says-run limit s p [] h = simp append-nil h
 says-run limit s p (b ∷ text) h =
-    subst (λ (x : List ℕ). Says limit x (run (stepDigits limit) (stepDigits limit s b) text)) (append-assoc p (b ∷ []) text) (says-run limit (stepDigits limit s b) (p ++ (b ∷ [])) text (says-step limit s b p h))
+    subst (λ (x : List ℕ). Says limit x (run (stepDigits limit) (stepDigits limit s b) text)) (append-assoc p (b ∷ []) text)
+    (says-run limit (stepDigits limit s b) (p ++ (b ∷ [])) text (says-step limit s b p h))
 
 says-text : (limit : ℕ) (text : List ℕ) → Says limit text (digitsOf limit text)
 unfolding digitsOf Says

@@ -42,7 +42,8 @@ module _ (have : ℕ) (more : ℤ) where
         h,
         outside-over (pos 0) (pos (document01 .mostAtoms)) (pos have +ℤ more)
             (by-bool (leZ more (pos (document01 .mostAtoms)))
-            (λ k. absurd (let z : _≡_ {A = Bool} true false = sym e ∙ not-outside (pos 0) (pos (document01 .mostAtoms)) more (omega (zed, apart more)) (omega zed) in let q : _≡_ {A = ℕ} 0 1 = cc in omega arith))
+            (λ k. absurd
+            (let z : _≡_ {A = Bool} true false = sym e ∙ not-outside (pos 0) (pos (document01 .mostAtoms)) more (omega (zed, apart more)) (omega zed) in let q : _≡_ {A = ℕ} 0 1 = cc in omega arith))
             (λ k. omega (zed, sum-is, apart more))),
       ) refl)
 
@@ -171,4 +172,6 @@ module _ {a b c d : ℤ} (r : InReach a b c d) where
   with-brought-fits = fits-from w64 sum2-is (omega (arith, r .heat-most, r .fifteen-least, r .brought-most)) (omega (arith, r .heat-least, r .fifteen-most, r .brought-least))
 
   pub target-fits : SFits w64 (a -ℤ b +ℤ c +ℤ d)
-  target-fits = fits-from w64 (is-add sum2-is (is-self d)) (omega (arith, r .heat-most, r .fifteen-least, r .brought-most, r .new-most)) (omega (arith, r .heat-least, r .fifteen-most, r .brought-least, r .new-least))
+  target-fits =
+      fits-from w64 (is-add sum2-is (is-self d)) (omega (arith, r .heat-most, r .fifteen-least, r .brought-most, r .new-most))
+      (omega (arith, r .heat-least, r .fifteen-most, r .brought-least, r .new-least))

@@ -152,7 +152,8 @@ module _ (s : List ℕ) (st : Standing) (p : Step) where
 
       heat-there : target -ℤ left .0 ≡ v (temperature v target)
       unfolding rest
-      heat-there = ap (λ (z : ℤ). target -ℤ z) left-is ∙ same-by (is-minus (is-self target) (is-minus (is-self target) (is-self (v (temperature v target))))) (is-self (v (temperature v target))) (omega arith)
+      heat-there =
+          ap (λ (z : ℤ). target -ℤ z) left-is ∙ same-by (is-minus (is-self target) (is-minus (is-self target) (is-self (v (temperature v target))))) (is-self (v (temperature v target))) (omega arith)
 
       asks-burning : {x : Asking} → AsksOf s (For x) → Burns document01 (x .gas) × (x .fifteen .0 ≡ gasHeat document01 s (x .gas) fifteenDegrees)
       asks-burning (burning b f) = (b, f)

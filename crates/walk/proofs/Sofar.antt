@@ -127,7 +127,8 @@ module _ (s : List ℕ) (start : State) (n : ℕ) (numbers t₀ r₀ : List ℤ)
     abbrev j : Told Out
     j = judge document01 s (stateOf st) (stepNo numbers i)
 
-    turn : run document01 s (stateOf st) (stepsOf (n - i) (drop (stepNumbers * i) numbers)) ≡ onward (stateOf st) j (λ q. run document01 s q (stepsOf (n - (i + 1)) (drop (stepNumbers * (i + 1)) numbers)))
+    turn : run document01 s (stateOf st) (stepsOf (n - i) (drop (stepNumbers * i) numbers))
+        ≡ onward (stateOf st) j (λ q. run document01 s q (stepsOf (n - (i + 1)) (drop (stepNumbers * (i + 1)) numbers)))
     unfolding run
     turn = rw (steps-from n i numbers h) refl
 
@@ -139,7 +140,8 @@ module _ (s : List ℕ) (start : State) (n : ℕ) (numbers t₀ r₀ : List ℤ)
         let lt = length-map os (λ (x : Out). pos (x .state .mk)) ∙ f .count in
         let lr = length-map os (λ (x : Out). x .rests) ∙ f .count in
         let room : length (looksOf os ++ eleven (o .seen)) ≤ length l₀ = simp (length-append, f .places, d) (omega arith) in
-        let ll : take (lookPlaces * i) l ++ laid (eleven (o .seen)) (drop (lookPlaces * i) l) ≡ laid (looksOf os ++ eleven (o .seen)) l₀ = rw (f .looks) (laid-part (lookPlaces * i) (looksOf os) (eleven (o .seen)) l₀ (f .places)) in
+        let ll : take (lookPlaces * i) l ++ laid (eleven (o .seen)) (drop (lookPlaces * i) l) ≡ laid (looksOf os ++ eleven (o .seen)) l₀ =
+        rw (f .looks) (laid-part (lookPlaces * i) (looksOf os) (eleven (o .seen)) l₀ (f .places)) in
         record {
           outs = os ++ (o ∷ []);
           within = omega arith;
@@ -150,8 +152,12 @@ module _ (s : List ℕ) (start : State) (n : ℕ) (numbers t₀ r₀ : List ℤ)
               ∙ ahead-snoc os o (run document01 s (o .state) (stepsOf (n - (i + 1)) (drop (stepNumbers * (i + 1)) numbers)))
               ∙ ap (λ (x : State). ahead (os ++ (o ∷ [])) (run document01 s x (stepsOf (n - (i + 1)) (drop (stepNumbers * (i + 1)) numbers)))) q;
           stands = k;
-          temperatures = ap (λ (x : List ℤ). set x i (pos (o .state .mk))) (f .temperatures) ∙ laid-set i (temperaturesOf os) t₀ (pos (o .state .mk)) lt (omega arith) ∙ ap (λ (x : List ℤ). laid x t₀) (sym (map-snoc (λ (x : Out). pos (x .state .mk)) os o));
-          rests = ap (λ (x : List ℤ). set x i (o .rests)) (f .rests) ∙ laid-set i (restsOf os) r₀ (o .rests) lr (omega arith) ∙ ap (λ (x : List ℤ). laid x r₀) (sym (map-snoc (λ (x : Out). x .rests) os o));
+          temperatures =
+              ap (λ (x : List ℤ). set x i (pos (o .state .mk))) (f .temperatures) ∙ laid-set i (temperaturesOf os) t₀ (pos (o .state .mk)) lt (omega arith)
+              ∙ ap (λ (x : List ℤ). laid x t₀) (sym (map-snoc (λ (x : Out). pos (x .state .mk)) os o));
+          rests =
+              ap (λ (x : List ℤ). set x i (o .rests)) (f .rests) ∙ laid-set i (restsOf os) r₀ (o .rests) lr (omega arith)
+              ∙ ap (λ (x : List ℤ). laid x r₀) (sym (map-snoc (λ (x : Out). x .rests) os o));
           looks = ll ∙ ap (λ (x : List ℕ). laid x l₀) (sym (looks-snoc os o));
           same-t = length-set t i (pos (o .state .mk)) ∙ f .same-t;
           same-r = length-set r i (o .rests) ∙ f .same-r;
@@ -172,7 +178,8 @@ module _ (s : List ℕ) (start : State) (n : ℕ) (numbers t₀ r₀ : List ℤ)
         Sofar (set t i x) (set r i y) (take (lookPlaces * i) l ++ (ys ++ drop (length l - lookPlaces * i) (drop (lookPlaces * i) l))) next (i + 1)
     turned p g a ys next rest x y e u v w1 =
         let w = was-done j next rest ys (rw (g, e) at w1) in
-        with-out (w .out) ys next x y (w .judged) (w .state) (w .stands) (u ∙ plain (mk-range (next .t .0) (w .stands .covered) .2) ∙ ap (λ (q : State). pos (q .mk)) (sym (w .state))) (v ∙ sym (w .rests)) (w .looks)
+        with-out (w .out) ys next x y (w .judged) (w .state) (w .stands)
+        (u ∙ plain (mk-range (next .t .0) (w .stands .covered) .2) ∙ ap (λ (q : State). pos (q .mk)) (sym (w .state))) (v ∙ sym (w .rests)) (w .looks)
 
     pub halted : (p : Step) → p ≡ stepNo numbers i → (a : Stepped) (ys : List ℕ) (k : ℕ) (b : WalkAnswer) → a ≡ Refused k → paperWalk b ≡ gives (courseOf i (cut k (stateOf st))) →
         StepGives (judge document01 s (stateOf st) p) s (take (length l - lookPlaces * i) (drop (lookPlaces * i) l)) a ys →
@@ -193,5 +200,6 @@ module _ (s : List ℕ) (start : State) (n : ℕ) (numbers t₀ r₀ : List ℤ)
       let z : n - i ≡ 0 = omega arith in
       let e : n ≡ length os = omega arith in
       let w : run document01 s start (stepsOf n numbers) ≡ record { outs = os; end = ended (stateOf st) } =
-      f .ran ∙ ap (λ (k : ℕ). ahead os (run document01 s (stateOf st) (stepsOf k (drop (stepNumbers * i) numbers)))) z ∙ ap (λ (x : List Out). record { outs = x; end = ended (stateOf st) }) (append-nil os) in
+      f .ran ∙ ap (λ (k : ℕ). ahead os (run document01 s (stateOf st) (stepsOf k (drop (stepNumbers * i) numbers)))) z
+      ∙ ap (λ (x : List Out). record { outs = x; end = ended (stateOf st) }) (append-nil os) in
       rw w (record { answer = q ∙ ap (λ (m : ℕ). gives (courseOf m (ended (stateOf st)))) e; lent = rw (f .temperatures, f .rests, f .looks) refl })

@@ -21,7 +21,8 @@ use Rattle.walk.specs.declared.WalkAnswer.{WalkAnswer}
 use Rattle.walk.specs.declared.Step.{Step}
 use Rattle.walk.specs.Step.{State, Asked, Out, held, askLines, askedOf, asked, outOf, sought, judge, stepOrder}
 use Rattle.walk.specs.Lists.{Lists}
-use Rattle.walk.specs.Walk.{Trace, End, ended, cut, more, onward, run, noStep, StoppedAt, FirstRefused, stepsOf, startLines, startState, walked, walkedInto, Course, done, stopped, chargeOf, courseOf, course, paperWalk, Walks}
+use Rattle.walk.specs.Walk.{Trace, End, ended, cut, more, onward, run, noStep, StoppedAt, FirstRefused, stepsOf, startLines, startState, walked}
+use Rattle.walk.specs.Walk.{walkedInto, Course, done, stopped, chargeOf, courseOf, course, paperWalk, Walks}
 
 -- ---- a step
 module _ (w : Weights) (s : List ℕ) (st : State) (p : Step) where

@@ -31,7 +31,8 @@ use Rattle.walk.specs.declared.WalkAnswer.{WalkAnswer}
 use Rattle.walk.specs.Lists.{Lists, laid}
 use Rattle.walk.specs.declared.Step.{Step}
 use Rattle.walk.specs.Step.{State, Asked, Out, held, added, newGas, askedOf, outOf}
-use Rattle.walk.specs.Walk.{Trace, End, ended, cut, run, noStep, stepsOf, startLines, startState, walked, walkedInto, courseOf, course, chargeOf, paperWalk, temperaturesOf, restsOf, looksOf, filled, Walks, WalkPromise}
+use Rattle.walk.specs.Walk.{Trace, End, ended, cut, run, noStep, stepsOf, startLines, startState, walked, walkedInto, courseOf, course, chargeOf}
+use Rattle.walk.specs.Walk.{paperWalk, temperaturesOf, restsOf, looksOf, filled, Walks, WalkPromise}
 use Rattle.walk.specs.Ledger.{total, ledger, dearest, sumOf, lastOf}
 use Rattle.walk.specs.RunLaws.{StepDone, step-done, of-run}
 use Rattle.walk.specs.LedgerLaws.{AllClimb, dearests, run-balances, gas-after}
@@ -206,7 +207,9 @@ module _ (w : Weights) (s : List ℕ) (climb : AllClimb w s) (lines : List Line)
   -- a walk that began is its run
   its-run : (T : Trace) → told ≡ gives T → run w s (startState start from) steps ≡ T
   unfolding walked
-  its-run T e = gives-clear (lines ++ startLines w start from (length numbers) (length (before .temperatures)) (length (before .rests)) (length (before .looks))) {a = run w s (startState start from) steps} {b = T} e .1
+  its-run T e =
+      gives-clear (lines ++ startLines w start from (length numbers) (length (before .temperatures)) (length (before .rests)) (length (before .looks)))
+      {a = run w s (startState start from) steps} {b = T} e .1
 
   demand-3-climbing : (a : WalkAnswer) (after : Lists) (n : ℕ) (ch : Charge) (mk : ℤ) → Walks told before a after → CameBack a n ch mk
       → Demand3 w s (startState start from) (take n steps) n ch mk (after .temperatures) (after .rests) (after .looks)
@@ -227,7 +230,9 @@ module _ (w : Weights) (so : Sound w) (s : List ℕ) (start : Charge) (from : �
   began-accepted : (T : Trace) → walkedInto before (sheetLines s) w s start from numbers ≡ gives T → Accepted s
   unfolding walked
   began-accepted T e =
-      let c = gives-clear (sheetLines s ++ startLines w start from (length numbers) (length (before .temperatures)) (length (before .rests)) (length (before .looks))) {a = run w s (startState start from) (stepsOf (length numbers / stepNumbers) numbers)} {b = T} e .0 in
+      let c =
+      gives-clear (sheetLines s ++ startLines w start from (length numbers) (length (before .temperatures)) (length (before .rests)) (length (before .looks)))
+      {a = run w s (startState start from) (stepsOf (length numbers / stepNumbers) numbers)} {b = T} e .0 in
       accepted-of-told s (values-given tt (sheet-clear c))
     where
       sheet-clear : Clear (sheetLines s ++ startLines w start from (length numbers) (length (before .temperatures)) (length (before .rests)) (length (before .looks))) → Clear (sheetLines s)

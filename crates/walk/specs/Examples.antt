@@ -94,7 +94,8 @@ module _ {s : List ℕ} (ok : Accepted s) where
     is-sought =
         let f = part-found ok (a + q) h in
         rw (first-heat, last-heat, le-ltb (477600000000 + (a + q)) 477600000000 (omega arith), le-ltb 5378900000000 (477600000000 + (a + q)) (omega arith))
-        (ap₂ (λ (m : ℕ) (z : ℤ). gives (record { state = record { gas = one; mk = m }; rests = z; seen = looks v (pos (477600000000 + (a + q))) })) (ap (λ (x : Found). up (x .mk)) f) (ap (λ (x : Found). x .left) f))
+        (ap₂ (λ (m : ℕ) (z : ℤ). gives (record { state = record { gas = one; mk = m }; rests = z; seen = looks v (pos (477600000000 + (a + q))) }))
+        (ap (λ (x : Found). up (x .mk)) f) (ap (λ (x : Found). x .left) f))
 
     pub heat-step : judge document01 s (record { gas = one; mk = from }) (plainHeat q) ≡ gives (outAt s (a + q))
     unfolding judge

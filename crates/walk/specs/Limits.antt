@@ -1,4 +1,5 @@
--- The limits of a walk (document 01, "The walk"), each said here once; the others are worked out from them. The constants of src/lib.rt are proved to be these by the promises of the calls that test them.
+-- The limits of a walk (document 01, "The walk"), each said here once; the others are worked out from them. The constants of src/lib.rt are proved to be these by the promises of
+-- the calls that test them.
 use Prim.Native.Nat.{ℕ, _*_}
 use Rattle.air.specs.Limits.{lookPlaces}
 

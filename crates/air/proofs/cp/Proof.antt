@@ -1,3 +1,4 @@
+-- `cp`: the column Cp of the table is built and lent, and what is read there is told.
 use borrow.Author.Needs.{needs}
 use Rattle.signed.specs.Zed.{back}
 use Rattle.air.proofs.cp.Statement.{statement}

@@ -1,3 +1,4 @@
+-- `psi_inverse`: the column psi of the table is built and lent, and what is found there is told, the looks in the caller's list.
 use borrow.Author.Needs.{needs}
 use Rattle.signed.specs.Zed.{back}
 use Rattle.air.proofs.psi_inverse.Statement.{statement}

@@ -1,3 +1,4 @@
+-- `sheet`: the array SHEET in the code, number for number, is the built-in sheet of specs/.
 use mathlib.Core.Path.{refl}
 use Rattle.built_in.specs.BuiltIn.{builtIn}
 use Rattle.built_in.proofs.sheet.Statement.{statement}

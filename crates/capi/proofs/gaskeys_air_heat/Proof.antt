@@ -1,3 +1,4 @@
+-- `gaskeys_air_heat`: what `air::heat` tells, laid out in a struct: the argument is the same number to both.
 use borrow.Author.Needs.{needs}
 use mathlib.Core.Path.{_∙_, ap}
 use Rattle.signed.specs.Zed.{back}

@@ -1,3 +1,4 @@
+-- `gaskeys_burn`: what `gas::burn` tells of the charge, laid out in a struct.
 use borrow.Author.Needs.{needs}
 use mathlib.Core.Path.{_∙_, ap}
 use Rattle.signed.specs.Zed.{back}

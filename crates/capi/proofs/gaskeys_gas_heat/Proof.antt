@@ -1,3 +1,4 @@
+-- `gaskeys_gas_heat`: what `gas::gas_heat` tells of the charge, laid out in a struct.
 use borrow.Author.Needs.{needs}
 use mathlib.Core.Path.{_∙_, ap}
 use Rattle.signed.specs.Zed.{back}
@@ -18,7 +19,10 @@ tell-heat-requires : tie.Need-tell-heat-requires
 tell-heat-requires c κs = search needs
 
 returns : tie.Need-returns
-returns c = let s = c .before .before .before .before .before in rw (← back (s .fits .air), ← back (s .fits .carbon), ← back (s .fits .hydrogen), ← back (s .fits .millikelvin)) (c .tell-heat .ensures ∙ ap flatHeat (rw (c .before .before .charge-in .ensures) at (c .before .gas-heat .ensures)))
+returns c =
+    let s = c .before .before .before .before .before in
+    rw (← back (s .fits .air), ← back (s .fits .carbon), ← back (s .fits .hydrogen), ← back (s .fits .millikelvin))
+    (c .tell-heat .ensures ∙ ap flatHeat (rw (c .before .before .charge-in .ensures) at (c .before .gas-heat .ensures)))
 
 pub gaskeys-gas-heat-spec : {M : Type 1} → statement M
 gaskeys-gas-heat-spec = tie.close (tie.spec slice-aggregate-charge-in charge-in-requires gas-heat-requires tell-heat-requires returns)

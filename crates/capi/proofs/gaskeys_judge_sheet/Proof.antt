@@ -1,3 +1,4 @@
+-- `gaskeys_judge_sheet`: what `sheet::judge_sheet` tells of the list, laid out in a struct.
 use borrow.Author.Needs.{needs}
 use mathlib.Core.Path.{_∙_, ap}
 use Rattle.capi.specs.Flat.{flatSheet}

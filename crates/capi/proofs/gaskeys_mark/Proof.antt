@@ -1,3 +1,4 @@
+-- `gaskeys_mark`: what `marking::mark` tells of the number in its kind, laid out in a struct.
 use borrow.Author.Needs.{needs}
 use mathlib.Core.Path.{_∙_, ap}
 use Rattle.signed.specs.Zed.{back}
@@ -15,7 +16,8 @@ tell-mark-requires : tie.Need-tell-mark-requires
 tell-mark-requires c κs = search needs
 
 returns : tie.Need-returns
-returns c = let s = c .before .before .before in rw (← back (s .fits .key), ← back (s .fits .window), ← c .before .before .typed-of .ensures) (c .tell-mark .ensures ∙ ap flatMark (c .before .mark .ensures))
+returns c =
+    let s = c .before .before .before in rw (← back (s .fits .key), ← back (s .fits .window), ← c .before .before .typed-of .ensures) (c .tell-mark .ensures ∙ ap flatMark (c .before .mark .ensures))
 
 pub gaskeys-mark-spec : {M : Type 1} → statement M
 gaskeys-mark-spec = tie.close (tie.spec typed-of-requires mark-requires tell-mark-requires returns)

@@ -1,3 +1,4 @@
+-- `gaskeys_psi_inverse`: `air::psi_inverse` writes the lent list; its answer laid out in a struct makes the call's promise (proofs/Promised.antt).
 use borrow.Author.Needs.{needs}
 use Rattle.signed.specs.Zed.{back}
 use Rattle.capi.proofs.Promised.{psi-told}

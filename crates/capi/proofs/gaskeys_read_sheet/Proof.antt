@@ -1,3 +1,4 @@
+-- `gaskeys_read_sheet`: `sheet::read_sheet` writes the lent list; its answer laid out in a struct makes the call's promise (proofs/Promised.antt).
 use borrow.Author.Needs.{needs}
 use Rattle.capi.proofs.Promised.{sheet-told}
 use Rattle.capi.proofs.gaskeys_read_sheet.Statement.{statement}

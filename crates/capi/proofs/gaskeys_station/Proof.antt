@@ -1,3 +1,4 @@
+-- `gaskeys_station`: what `marking::station` tells of the charge, laid out in a struct.
 use borrow.Author.Needs.{needs}
 use mathlib.Core.Path.{_∙_, ap}
 use Rattle.signed.specs.Zed.{back}
@@ -18,7 +19,10 @@ tell-station-requires : tie.Need-tell-station-requires
 tell-station-requires c κs = search needs
 
 returns : tie.Need-returns
-returns c = let s = c .before .before .before .before .before in rw (← back (s .fits .air), ← back (s .fits .carbon), ← back (s .fits .hydrogen), ← back (s .fits .millikelvin)) (c .tell-station .ensures ∙ ap flatStation (rw (c .before .before .charge-in .ensures) at (c .before .station .ensures)))
+returns c =
+    let s = c .before .before .before .before .before in
+    rw (← back (s .fits .air), ← back (s .fits .carbon), ← back (s .fits .hydrogen), ← back (s .fits .millikelvin))
+    (c .tell-station .ensures ∙ ap flatStation (rw (c .before .before .charge-in .ensures) at (c .before .station .ensures)))
 
 pub gaskeys-station-spec : {M : Type 1} → statement M
 gaskeys-station-spec = tie.close (tie.spec slice-aggregate-charge-in charge-in-requires station-requires tell-station-requires returns)

@@ -1,3 +1,4 @@
+-- `gaskeys_temperature`: `gas::temperature` writes the lent list; its answer laid out in a struct makes the call's promise (proofs/Promised.antt).
 use borrow.Author.Needs.{needs}
 use Rattle.signed.specs.Zed.{back}
 use Rattle.capi.proofs.Promised.{temperature-told}
@@ -20,7 +21,12 @@ same-length : tie.Need-same-length
 same-length c = search needs
 
 returns : tie.Need-returns
-returns c = let s = c .before .before .before .before .before .before .before .before .before in rw (← back (s .fits .air), ← back (s .fits .carbon), ← back (s .fits .hydrogen), ← back (s .fits .target)) (temperature-told (rw (c .before .before .before .before .before .charge-in .ensures) at (c .before .before .before .temperature .ensures)) (c .tell-temperature .ensures))
+returns c =
+    let at-temperature = c .before .before .before in
+    let at-charge-in = at-temperature .before .before in
+    let s = at-charge-in .before .before .before .before in
+    rw (← back (s .fits .air), ← back (s .fits .carbon), ← back (s .fits .hydrogen), ← back (s .fits .target))
+    (temperature-told (rw (at-charge-in .charge-in .ensures) at (at-temperature .temperature .ensures)) (c .tell-temperature .ensures))
 
 pub gaskeys-temperature-spec : {M : Type 1} → statement M
 gaskeys-temperature-spec =

@@ -1,3 +1,4 @@
+-- `gaskeys_walk`: `walk::walk` writes the three lent lists; its answer laid out in a struct makes the call's promise (proofs/Promised.antt).
 use borrow.Author.Needs.{needs}
 use Rattle.signed.specs.Zed.{back}
 use Rattle.capi.proofs.Promised.{walk-told}
@@ -26,7 +27,12 @@ same-length-3 : tie.Need-same-length-3
 same-length-3 c = search needs
 
 returns : tie.Need-returns
-returns c = let s = c .before .before .before .before .before .before .before .before .before .before .before .before .before in rw (← back (s .fits .air), ← back (s .fits .carbon), ← back (s .fits .hydrogen), ← back (s .fits .millikelvin)) (walk-told (rw (c .before .before .before .before .before .before .before .before .before .charge-in .ensures) at (c .before .before .before .before .before .walk .ensures)) (c .tell-walk .ensures))
+returns c =
+    let at-walk = c .before .before .before .before .before in
+    let at-charge-in = at-walk .before .before .before .before in
+    let s = at-charge-in .before .before .before .before in
+    rw (← back (s .fits .air), ← back (s .fits .carbon), ← back (s .fits .hydrogen), ← back (s .fits .millikelvin))
+    (walk-told (rw (at-charge-in .charge-in .ensures) at (at-walk .walk .ensures)) (c .tell-walk .ensures))
 
 pub gaskeys-walk-spec : {M : Type 1} → statement M
 gaskeys-walk-spec =

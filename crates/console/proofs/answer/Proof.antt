@@ -1,3 +1,4 @@
+-- `answer`: a sheet that is judged here or was judged when it was read gives the same answer to a line (`judged-once`).
 use Rattle.console.specs.Answers.{ofList}
 use Rattle.console.specs.VerdictLaws.{judged-once}
 use borrow.Author.Needs.{needs}
@@ -17,15 +18,21 @@ judge-requires : tie.Need-judge-requires
 judge-requires c κs = search needs
 
 answer-judged-requires : tie.Need-answer-judged-requires
-answer-judged-requires c κs = (ofList (c .before .before .before .before .judge .ensures), record { heats-are = c .before .before .before .before .before .before .before .before .heat-column .ensures; psis-are = c .before .before .before .before .before .before .before .psi-column .ensures; cps-are = c .before .before .before .before .before .before .cp-column .ensures })
+answer-judged-requires c κs =
+    let at-judge = c .before .before .before .before in
+    let at-cp-column = at-judge .before .before in
+    let at-psi-column = at-cp-column .before in
+    let at-heat-column = at-psi-column .before in
+    (ofList (at-judge .judge .ensures), record { heats-are = at-heat-column .heat-column .ensures; psis-are = at-psi-column .psi-column .ensures; cps-are = at-cp-column .cp-column .ensures })
 
 same-length : tie.Need-same-length
 same-length c = search needs
 
 returns : tie.Need-returns
 returns c =
-    let s = c .before .before .before .before .before .before .before .before .before .before .before .before .before .before .before in
-    rw (judged-once (s .args .sheet .now) (s .args .line .now) (c .before .before .before .before .before .before .before .judge .result) (c .before .before .before .before .before .before .before .judge .ensures)) at (c .before .before .answer-judged .ensures)
+    let at-judge = c .before .before .before .before .before .before .before in
+    let s = at-judge .before .before .before .before .before .before .before .before in
+    rw (judged-once (s .args .sheet .now) (s .args .line .now) (at-judge .judge .result) (at-judge .judge .ensures)) at (c .before .before .answer-judged .ensures)
 
 pub answer-spec : {M : Type 1} → statement M
 answer-spec = tie.close (tie.spec heat-column-requires psi-column-requires cp-column-requires judge-requires answer-judged-requires same-length returns)

@@ -1,3 +1,4 @@
+-- `print_walk`: a sheet that is judged here or was judged when it was read gives the same page (`printed-once`).
 use Rattle.console.specs.Answers.{ofList}
 use Rattle.console.specs.VerdictLaws.{printed-once}
 use borrow.Author.Needs.{needs}
@@ -18,8 +19,9 @@ same-length c = search needs
 
 returns : tie.Need-returns
 returns c =
-    let s = c .before .before .before .before .before .before .before .before .before .before in
-    rw (printed-once (s .args .sheet .now) (s .args .charge) (s .args .t .0) (s .args .steps .now) (c .before .before .before .before .before .judge .result) (c .before .before .before .before .before .judge .ensures)) at (c .before .before .print-judged .ensures)
+    let at-judge = c .before .before .before .before .before in
+    let s = at-judge .before .before .before .before .before in
+    rw (printed-once (s .args .sheet .now) (s .args .charge) (s .args .t .0) (s .args .steps .now) (at-judge .judge .result) (at-judge .judge .ensures)) at (c .before .before .print-judged .ensures)
 
 pub print-walk-spec : {M : Type 1} → statement M
 print-walk-spec = tie.close (tie.spec heat-column-requires judge-requires print-judged-requires same-length returns)

@@ -1,3 +1,4 @@
+-- `over_file`: the bytes that were read are a part of the buffer, and what the job is given is the verdict on them and the list that they filled.
 use Rattle.console.specs.Answers.{ofText}
 use mathlib.Core.Path.{subst}
 use Prim.Native.Nat.{_≤_}
@@ -38,15 +39,25 @@ slice-aggregate-judge c = search needs
 
 -- src/lib.rt:59:17
 judge-requires : tie.Need-judge-requires
-judge-requires c κs = let h : c .before .before .before .n .given .0 .0 ≤ length (c .before .before .before .before .before .before .read .last .1 .0) = subst (λ (x : Text). Filled x (c .before .before .before .before .before .before .read .last .1 .0)) (c .before .before .before .n .given .1) (c .before .before .before .before .before .before .read .ensures) in h
+judge-requires c κs =
+    let at-n = c .before .before .before in
+    let at-read = at-n .before .before .before in
+    let h : at-n .n .given .0 .0 ≤ length (at-read .read .last .1 .0) = subst (λ (x : Text). Filled x (at-read .read .last .1 .0)) (at-n .n .given .1) (at-read .read .ensures) in h
 
 -- src/lib.rt:60:41
 array-share-prefix-bytes : tie.Need-array-share-prefix-bytes
-array-share-prefix-bytes c = let h : c .before .before .before .before .before .before .n .given .0 .0 ≤ length (c .before .before .before .before .before .before .before .before .before .read .last .1 .0) = subst (λ (x : Text). Filled x (c .before .before .before .before .before .before .before .before .before .read .last .1 .0)) (c .before .before .before .before .before .before .n .given .1) (c .before .before .before .before .before .before .before .before .before .read .ensures) in h
+array-share-prefix-bytes c =
+    let at-n = c .before .before .before .before .before .before in
+    let at-read = at-n .before .before .before in
+    let h : at-n .n .given .0 .0 ≤ length (at-read .read .last .1 .0) = subst (λ (x : Text). Filled x (at-read .read .last .1 .0)) (at-n .n .given .1) (at-read .read .ensures) in h
 
 -- src/lib.rt:60:41
 slice-aggregate-say-return : tie.Need-slice-aggregate-say-return
-slice-aggregate-say-return c = let h : c .before .before .before .before .before .before .before .n .given .0 .0 ≤ length (c .before .before .before .before .before .before .before .before .before .before .read .last .1 .0) = subst (λ (x : Text). Filled x (c .before .before .before .before .before .before .before .before .before .before .read .last .1 .0)) (c .before .before .before .before .before .before .before .n .given .1) (c .before .before .before .before .before .before .before .before .before .before .read .ensures) in simp length-take (omega arith)
+slice-aggregate-say-return c =
+    let at-n = c .before .before .before .before .before .before .before in
+    let at-read = at-n .before .before .before in
+    let h : at-n .n .given .0 .0 ≤ length (at-read .read .last .1 .0) = subst (λ (x : Text). Filled x (at-read .read .last .1 .0)) (at-n .n .given .1) (at-read .read .ensures) in
+    simp length-take (omega arith)
 
 -- src/lib.rt:60:13
 say-return-requires : tie.Need-say-return-requires
@@ -54,7 +65,10 @@ say-return-requires c κs = search needs
 
 -- src/lib.rt:61:13
 serve-requires : tie.Need-serve-requires
-serve-requires c κs = (ofText (c .before .before .before .before .before .judge .ensures), c .before .before .before .before .before .before .before .before .before .before .before .before .before .before .before .before .pre)
+serve-requires c κs =
+    let at-judge = c .before .before .before .before .before in
+    let at-start = at-judge .before .before .before .before .before .before .before .before .before .before .before in
+    (ofText (at-judge .judge .ensures), at-start .pre)
 
 enum-told : tie.Need-enum-told
 enum-told c = search needs

@@ -1,3 +1,4 @@
+-- `over_sheet`: the verdict that a job is given is that on its list: the built-in one judged here, or a file's.
 use Rattle.console.specs.Answers.{ofList}
 use borrow.Author.Needs.{needs}
 use Rattle.desk.proofs.over_sheet.Statement.{statement}
@@ -28,7 +29,12 @@ slice-aggregate-serve : tie.Need-slice-aggregate-serve
 slice-aggregate-serve c = search needs
 
 serve-requires : tie.Need-serve-requires
-serve-requires c κs = (ofList (c .before .before .before .before .judge .ensures), record { heats-are = c .before .before .before .before .before .before .before .before .before .before .before .before .heat-column .ensures; psis-are = c .before .before .before .before .before .before .before .before .before .before .before .psi-column .ensures; cps-are = c .before .before .before .before .before .before .before .before .before .before .cp-column .ensures })
+serve-requires c κs =
+    let at-judge = c .before .before .before .before in
+    let at-cp-column = at-judge .before .before .before .before .before .before in
+    let at-psi-column = at-cp-column .before in
+    let at-heat-column = at-psi-column .before in
+    (ofList (at-judge .judge .ensures), record { heats-are = at-heat-column .heat-column .ensures; psis-are = at-psi-column .psi-column .ensures; cps-are = at-cp-column .cp-column .ensures })
 
 enum-known-named : tie.Need-enum-known-named
 enum-known-named c = search needs
@@ -37,7 +43,11 @@ slice-aggregate-over-file : tie.Need-slice-aggregate-over-file
 slice-aggregate-over-file c = search needs
 
 over-file-requires : tie.Need-over-file-requires
-over-file-requires c κs = record { heats-are = c .before .before .before .before .before .before .before .before .before .before .heat-column .ensures; psis-are = c .before .before .before .before .before .before .before .before .before .psi-column .ensures; cps-are = c .before .before .before .before .before .before .before .before .cp-column .ensures }
+over-file-requires c κs =
+    let at-cp-column = c .before .before .before .before .before .before .before .before in
+    let at-psi-column = at-cp-column .before in
+    let at-heat-column = at-psi-column .before in
+    record { heats-are = at-heat-column .heat-column .ensures; psis-are = at-psi-column .psi-column .ensures; cps-are = at-cp-column .cp-column .ensures }
 
 returns : tie.Need-returns
 returns c = search needs

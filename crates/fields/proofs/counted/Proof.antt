@@ -1,3 +1,4 @@
+-- `counted`: true exactly where every field was a number and there were k of them.
 use mathlib.Core.Path.{refl}
 use borrow.Author.Needs.{needs}
 use Rattle.fields.proofs.counted.Statement.{statement}

@@ -1,3 +1,5 @@
+-- `field_end`: the first tab at or after `from`, or the line's end, is where the field's span ends.
+-- Invariant: from place i on the same end is still ahead (`span-more`). Measure: the bytes of the line that are left.
 use Rattle.fields.specs.FieldsLaws.{span-tab, span-more, span-end}
 use Rattle.fields.specs.Fields.{spanOf}
 use lib.ListN.{length, drop}
@@ -20,7 +22,10 @@ shared-slice-read-if1 : tie.Need-shared-slice-read-if1 Inv-loop μ-loop
 shared-slice-read-if1 c = omega arith
 
 returns : tie.Need-returns Inv-loop μ-loop
-returns c = omega (arith, c .before .before .before .loop .inv, span-tab (c .before .before .before .before .args .line .now) (c .before .before .before .loop .i) (omega arith) (c .if1 .taken))
+returns c =
+    let at-loop = c .before .before .before in
+    let at-start = at-loop .before in
+    omega (arith, at-loop .loop .inv, span-tab (at-start .args .line .now) (at-loop .loop .i) (omega arith) (c .if1 .taken))
 
 add-i : tie.Need-add-i Inv-loop μ-loop
 add-i c = omega arith
@@ -29,7 +34,10 @@ loop-less : tie.Need-loop-less Inv-loop μ-loop
 loop-less c = omega arith
 
 loop-again : tie.Need-loop-again Inv-loop μ-loop
-loop-again c = omega (arith, c .before .before .before .loop .inv, span-more (c .before .before .before .before .args .line .now) (c .before .before .before .loop .i) (omega arith) (c .if1 .left))
+loop-again c =
+    let at-loop = c .before .before .before in
+    let at-start = at-loop .before in
+    omega (arith, at-loop .loop .inv, span-more (at-start .args .line .now) (at-loop .loop .i) (omega arith) (c .if1 .left))
 
 returns-2 : tie.Need-returns-2 Inv-loop μ-loop
 returns-2 c = omega (arith, c .before .loop .inv, span-end (c .before .before .args .line .now) (c .before .loop .i) (omega arith))

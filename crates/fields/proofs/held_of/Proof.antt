@@ -1,3 +1,4 @@
+-- `held_of`: the count of numbers, at most as many as the list has places, and none where a field is no number.
 use native.Mathlib.Omega.{arith}
 use borrow.Author.Needs.{needs}
 use Rattle.fields.proofs.held_of.Statement.{statement}

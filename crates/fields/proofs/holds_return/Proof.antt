@@ -1,3 +1,5 @@
+-- `holds_return`: true exactly where some byte of the line is 13.
+-- Invariant: the line holds a return exactly if what is left from i on does (`return-later`). Measure: the bytes that are left.
 use borrow.Author.Needs.{needs}
 use mathlib.Core.Path.{_≡_, refl, sym, _∙_}
 use Prim.Native.Nat.{_-_, _≤_}
@@ -21,7 +23,10 @@ shared-slice-read-if1 : tie.Need-shared-slice-read-if1 Inv-loop μ-loop
 shared-slice-read-if1 c = search needs
 
 returns : tie.Need-returns Inv-loop μ-loop
-returns c = sym (c .before .before .before .loop .inv .1 ∙ return-here (c .before .before .before .before .args .line .now) (c .before .before .before .loop .i) (omega arith) (c .if1 .taken))
+returns c =
+    let at-loop = c .before .before .before in
+    let at-start = at-loop .before in
+    sym (at-loop .loop .inv .1 ∙ return-here (at-start .args .line .now) (at-loop .loop .i) (omega arith) (c .if1 .taken))
 
 add-i : tie.Need-add-i Inv-loop μ-loop
 add-i c = search needs
@@ -30,7 +35,10 @@ loop-less : tie.Need-loop-less Inv-loop μ-loop
 loop-less c = search needs
 
 loop-again : tie.Need-loop-again Inv-loop μ-loop
-loop-again c = (omega arith, c .before .before .before .loop .inv .1 ∙ return-later (c .before .before .before .before .args .line .now) (c .before .before .before .loop .i) (omega arith) (c .if1 .left))
+loop-again c =
+    let at-loop = c .before .before .before in
+    let at-start = at-loop .before in
+    (omega arith, at-loop .loop .inv .1 ∙ return-later (at-start .args .line .now) (at-loop .loop .i) (omega arith) (c .if1 .left))
 
 returns-2 : tie.Need-returns-2 Inv-loop μ-loop
 returns-2 c = sym (c .before .loop .inv .1 ∙ return-none (c .before .before .args .line .now) (c .before .loop .i) (omega arith))

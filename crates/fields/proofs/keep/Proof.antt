@@ -1,3 +1,4 @@
+-- `keep`: the list with the number at n, and the same list where n is past its end (`set-past`).
 use Rattle.fields.specs.FieldsLaws.{set-past}
 use mathlib.Core.Path.{sym}
 use borrow.Author.Needs.{needs}

@@ -1,3 +1,4 @@
+-- `read_four`: four numbers exactly where every field is one and there are four of them: then the list holds all four (`exactly`).
 use Rattle.fields.specs.declared.Four.the-variants.{Are, Not}
 use Rattle.fields.specs.Fields.{fieldsFrom, valuesOf}
 use Rattle.fields.specs.FieldsLaws.{exactly, not-exactly}
@@ -35,16 +36,29 @@ array-copy-out-t20 c = search needs
 
 returns : tie.Need-returns
 returns c =
-    let f0 : SFits w64 (getD (c .before .before .before .before .before .before .before .read-numbers .last .1 .1 .0) 0 (pos 0)) = search needs in
-    let f1 : SFits w64 (getD (c .before .before .before .before .before .before .before .read-numbers .last .1 .1 .0) 1 (pos 0)) = search needs in
-    let f2 : SFits w64 (getD (c .before .before .before .before .before .before .before .read-numbers .last .1 .1 .0) 2 (pos 0)) = search needs in
-    let f3 : SFits w64 (getD (c .before .before .before .before .before .before .before .read-numbers .last .1 .1 .0) 3 (pos 0)) = search needs in
+    let at-read-numbers = c .before .before .before .before .before .before .before in
+    let f0 : SFits w64 (getD (at-read-numbers .read-numbers .last .1 .1 .0) 0 (pos 0)) = search needs in
+    let f1 : SFits w64 (getD (at-read-numbers .read-numbers .last .1 .1 .0) 1 (pos 0)) = search needs in
+    let f2 : SFits w64 (getD (at-read-numbers .read-numbers .last .1 .1 .0) 2 (pos 0)) = search needs in
+    let f3 : SFits w64 (getD (at-read-numbers .read-numbers .last .1 .1 .0) 3 (pos 0)) = search needs in
+    let at-if1 = c .before .before .before .before in
+    let at-counted = at-if1 .before in
+    let at-start = at-read-numbers .before .before .before in
     rw (back f0, back f1, back f2, back f3)
-    (exactly (λ (l : List ℤ). Are (getD l 0 (pos 0)) (getD l 1 (pos 0)) (getD l 2 (pos 0)) (getD l 3 (pos 0))) Not (fieldsFrom (c .before .before .before .before .before .before .before .before .before .before .args .line .now) (c .before .before .before .before .before .before .before .before .before .before .args .from)) (pos 0 ∷ pos 0 ∷ pos 0 ∷ pos 0 ∷ []) (c .before .before .before .before .before .before .before .read-numbers .last .1 .1 .0) 4
-    (c .before .before .before .before .before .before .before .read-numbers .ensures .0) (c .before .before .before .before .before .counted .ensures) (c .before .before .before .before .if1 .taken) refl (c .before .before .before .before .before .before .before .read-numbers .ensures .1))
+    (exactly (λ (l : List ℤ). Are (getD l 0 (pos 0)) (getD l 1 (pos 0)) (getD l 2 (pos 0)) (getD l 3 (pos 0))) Not
+    (fieldsFrom (at-start .args .line .now) (at-start .args .from)) (pos 0 ∷ pos 0 ∷ pos 0 ∷ pos 0 ∷ []) (at-read-numbers .read-numbers .last .1 .1 .0) 4
+    (at-read-numbers .read-numbers .ensures .0) (at-counted .counted .ensures) (at-if1 .if1 .taken) refl (at-read-numbers .read-numbers .ensures .1))
 
 returns-2 : tie.Need-returns-2
-returns-2 c = not-exactly (Are (getD (valuesOf (fieldsFrom (c .before .before .before .before .before .before .args .line .now) (c .before .before .before .before .before .before .args .from))) 0 (pos 0)) (getD (valuesOf (fieldsFrom (c .before .before .before .before .before .before .args .line .now) (c .before .before .before .before .before .before .args .from))) 1 (pos 0)) (getD (valuesOf (fieldsFrom (c .before .before .before .before .before .before .args .line .now) (c .before .before .before .before .before .before .args .from))) 2 (pos 0)) (getD (valuesOf (fieldsFrom (c .before .before .before .before .before .before .args .line .now) (c .before .before .before .before .before .before .args .from))) 3 (pos 0))) Not (fieldsFrom (c .before .before .before .before .before .before .args .line .now) (c .before .before .before .before .before .before .args .from)) 4 (c .before .before .before .read-numbers .ensures .0) (c .before .counted .ensures) (c .if1 .left)
+returns-2 c =
+    let at-read-numbers = c .before .before .before in
+    let at-start = at-read-numbers .before .before .before in
+    not-exactly
+    (Are (getD (valuesOf (fieldsFrom (at-start .args .line .now) (at-start .args .from))) 0 (pos 0))
+    (getD (valuesOf (fieldsFrom (at-start .args .line .now) (at-start .args .from))) 1 (pos 0))
+    (getD (valuesOf (fieldsFrom (at-start .args .line .now) (at-start .args .from))) 2 (pos 0))
+    (getD (valuesOf (fieldsFrom (at-start .args .line .now) (at-start .args .from))) 3 (pos 0))) Not
+    (fieldsFrom (at-start .args .line .now) (at-start .args .from)) 4 (at-read-numbers .read-numbers .ensures .0) (c .before .counted .ensures) (c .if1 .left)
 
 pub read-four-spec : {M : Type 1} → statement M
 read-four-spec =

@@ -1,3 +1,6 @@
+-- `read_numbers`: each field in turn is counted and kept, up to the first that is no number (`count-bad`, `leading-bad`) or the line's end (`leading-all`).
+-- Invariant: n fields are counted and kept, and with those from place p on they give what the whole line gives (`count-next`, `leading-next`).
+-- Measure: the bytes of the line that are left, and one for the field at its end.
 use Rattle.fields.specs.declared.Numbers.the-variants.{Count}
 use mathlib.Core.List.{[]}
 use Rattle.text.specs.declared.Whole.the-variants.{Is}
@@ -17,7 +20,9 @@ use Rattle.fields.proofs.read_numbers.Statement.{statement}
 use Rattle.fields.proofs.read_numbers.Tie as tie
 
 abbrev Inv-loop : tie.InvT-loop
-Inv-loop line from list₀ p₀ n₀ list p n = (n ≤ p) × (length list ≡ length list₀) × (countAll 0 (fieldsFrom line from) ≡ countAll n (fieldsFrom line p)) × (sets list₀ 0 (leadingOf (fieldsFrom line from)) ≡ sets list n (leadingOf (fieldsFrom line p)))
+Inv-loop line from list₀ p₀ n₀ list p n =
+    (n ≤ p) × (length list ≡ length list₀) × (countAll 0 (fieldsFrom line from) ≡ countAll n (fieldsFrom line p))
+    × (sets list₀ 0 (leadingOf (fieldsFrom line from)) ≡ sets list n (leadingOf (fieldsFrom line p)))
 
 abbrev μ-loop : tie.MeasureT-loop
 μ-loop line from list₀ p₀ n₀ list p n = length line + 1 - p
@@ -50,7 +55,20 @@ same-length : tie.Need-same-length Inv-loop μ-loop
 same-length c = c .before .before .before .before .before .before .loop .inv .1
 
 returns : tie.Need-returns Inv-loop μ-loop
-returns c = (sym (c .before .before .before .before .before .before .loop .inv .2 ∙ count-bad (c .before .before .before .before .before .before .before .before .args .line .now) (c .before .before .before .before .before .before .loop .p) (c .before .before .before .before .field-end .result) (c .before .before .before .before .before .before .loop .n) (omega arith) (c .before .before .before .before .field-end .ensures) (sym (c .before .before .read-whole .ensures) ∙ c .enum-told .given .1)), sym (c .before .before .before .before .before .before .loop .inv .3 ∙ ap (λ x. sets (c .before .before .before .before .before .before .loop .list) (c .before .before .before .before .before .before .loop .n) x) (leading-bad (c .before .before .before .before .before .before .before .before .args .line .now) (c .before .before .before .before .before .before .loop .p) (c .before .before .before .before .field-end .result) (omega arith) (c .before .before .before .before .field-end .ensures) (sym (c .before .before .read-whole .ensures) ∙ c .enum-told .given .1))))
+returns c =
+    let at-field-end = c .before .before .before .before in
+    let at-loop = at-field-end .before .before in
+    let at-start = at-loop .before .before in (
+      sym
+          (at-loop .loop .inv .2
+          ∙ count-bad (at-start .args .line .now) (at-loop .loop .p) (at-field-end .field-end .result) (at-loop .loop .n) (omega arith)
+          (at-field-end .field-end .ensures) (sym (c .before .before .read-whole .ensures) ∙ c .enum-told .given .1)),
+      sym
+          (at-loop .loop .inv .3
+          ∙ ap (λ x. sets (at-loop .loop .list) (at-loop .loop .n) x)
+          (leading-bad (at-start .args .line .now) (at-loop .loop .p) (at-field-end .field-end .result) (omega arith) (at-field-end .field-end .ensures)
+          (sym (c .before .before .read-whole .ensures) ∙ c .enum-told .given .1))),
+    )
 
 keep-requires : tie.Need-keep-requires Inv-loop μ-loop
 keep-requires c κs = tt
@@ -59,19 +77,34 @@ add-n : tie.Need-add-n Inv-loop μ-loop
 add-n c = omega arith
 
 add-p : tie.Need-add-p Inv-loop μ-loop
-add-p c = omega (arith, c .before .before .before .before .before .before .before .before .field-end .ensures, span-from (c .before .before .before .before .before .before .before .before .before .before .before .before .args .line .now) (c .before .before .before .before .before .before .before .before .before .before .loop .p) (omega arith))
+add-p c =
+    let at-field-end = c .before .before .before .before .before .before .before .before in
+    let at-loop = at-field-end .before .before in
+    let at-start = at-loop .before .before in
+    omega (arith, at-field-end .field-end .ensures, span-from (at-start .args .line .now) (at-loop .loop .p) (omega arith))
 
 loop-less : tie.Need-loop-less Inv-loop μ-loop
 loop-less c = omega (arith, c .before .before .before .before .before .before .before .before .field-end .ensures)
 
 loop-again : tie.Need-loop-again Inv-loop μ-loop
-loop-again c = let f : SFits w64 (c .before .before .before .before .z .given .0 .0) = search needs in
-    let r : wholeOf (take (c .before .before .before .before .before .before .before .before .field-end .result - c .before .before .before .before .before .before .before .before .before .before .loop .p) (drop (c .before .before .before .before .before .before .before .before .before .before .loop .p) (c .before .before .before .before .before .before .before .before .before .before .before .before .args .line .now))) ≡ Is (c .before .before .before .before .z .given .0 .0) = sym (c .before .before .before .before .before .before .read-whole .ensures) ∙ c .before .before .before .before .z .given .1 in
-    let k : c .before .keep .last .0 ≡ set (c .before .before .before .before .before .before .before .before .before .before .loop .list) (c .before .before .before .before .before .before .before .before .before .before .loop .n) (c .before .before .before .before .z .given .0 .0) = c .before .keep .ensures ∙ ap (set (c .before .before .before .before .before .before .before .before .before .before .loop .list) (c .before .before .before .before .before .before .before .before .before .before .loop .n)) (back f) in (
-      omega (arith, c .before .before .before .before .before .before .before .before .field-end .ensures, c .before .before .before .before .before .before .before .before .before .before .loop .inv .0),
-      ap length k ∙ (simp length-set (c .before .before .before .before .before .before .before .before .before .before .loop .inv .1)),
-      c .before .before .before .before .before .before .before .before .before .before .loop .inv .2 ∙ count-next (c .before .before .before .before .before .before .before .before .before .before .before .before .args .line .now) (c .before .before .before .before .before .before .before .before .before .before .loop .p) (c .before .before .before .before .before .before .before .before .field-end .result) (c .before .before .before .before .before .before .before .before .before .before .loop .n) (c .before .before .before .before .z .given .0 .0) (omega arith) (c .before .before .before .before .before .before .before .before .field-end .ensures) r,
-      c .before .before .before .before .before .before .before .before .before .before .loop .inv .3 ∙ (leading-next (c .before .before .before .before .before .before .before .before .before .before .before .before .args .line .now) (c .before .before .before .before .before .before .before .before .before .before .loop .p) (c .before .before .before .before .before .before .before .before .field-end .result) (c .before .before .before .before .before .before .before .before .before .before .loop .n) (c .before .before .before .before .z .given .0 .0) (c .before .before .before .before .before .before .before .before .before .before .loop .list) (omega arith) (c .before .before .before .before .before .before .before .before .field-end .ensures) r ∙ ap (λ x. sets x (c .before .before .before .before .before .before .before .before .before .before .loop .n + 1) (leadingOf (fieldsFrom (c .before .before .before .before .before .before .before .before .before .before .before .before .args .line .now) (c .before .before .before .before .before .before .before .before .field-end .result + 1)))) (sym k)),
+loop-again c =
+    let at-z = c .before .before .before .before in
+    let f : SFits w64 (at-z .z .given .0 .0) = search needs in
+    let at-read-whole = at-z .before .before in
+    let at-field-end = at-read-whole .before .before in
+    let at-loop = at-field-end .before .before in
+    let at-start = at-loop .before .before in
+    let r : wholeOf (take (at-field-end .field-end .result - at-loop .loop .p) (drop (at-loop .loop .p) (at-start .args .line .now))) ≡ Is (at-z .z .given .0 .0) =
+    sym (at-read-whole .read-whole .ensures) ∙ at-z .z .given .1 in
+    let k : c .before .keep .last .0 ≡ set (at-loop .loop .list) (at-loop .loop .n) (at-z .z .given .0 .0) = c .before .keep .ensures ∙ ap (set (at-loop .loop .list) (at-loop .loop .n)) (back f) in (
+      omega (arith, at-field-end .field-end .ensures, at-loop .loop .inv .0),
+      ap length k ∙ (simp length-set (at-loop .loop .inv .1)),
+      at-loop .loop .inv .2
+          ∙ count-next (at-start .args .line .now) (at-loop .loop .p) (at-field-end .field-end .result) (at-loop .loop .n) (at-z .z .given .0 .0) (omega arith) (at-field-end .field-end .ensures) r,
+      at-loop .loop .inv .3
+          ∙ (leading-next (at-start .args .line .now) (at-loop .loop .p) (at-field-end .field-end .result) (at-loop .loop .n) (at-z .z .given .0 .0)
+          (at-loop .loop .list) (omega arith) (at-field-end .field-end .ensures) r
+          ∙ ap (λ x. sets x (at-loop .loop .n + 1) (leadingOf (fieldsFrom (at-start .args .line .now) (at-field-end .field-end .result + 1)))) (sym k)),
     )
 
 same-length-2 : tie.Need-same-length-2 Inv-loop μ-loop
@@ -79,9 +112,14 @@ same-length-2 c = c .before .loop .inv .1
 
 returns-2 : tie.Need-returns-2 Inv-loop μ-loop
 returns-2 c =
-    let e : fieldsFrom (c .before .before .before .args .line .now) (c .before .loop .p) ≡ [] = fields-none (c .before .before .before .args .line .now) (c .before .loop .p) (omega arith) in
-    let n : countAll 0 (fieldsFrom (c .before .before .before .args .line .now) (c .before .before .before .args .from)) ≡ Count (c .before .loop .n) = c .before .loop .inv .2 ∙ ap (countAll (c .before .loop .n)) e in
-    (sym n, sym (ap (λ x. sets (c .before .before .before .args .list .now) 0 x) (sym (leading-all (fieldsFrom (c .before .before .before .args .line .now) (c .before .before .before .args .from)) 0 (c .before .loop .n) n)) ∙ (c .before .loop .inv .3 ∙ ap (λ x. sets (c .before .loop .list) (c .before .loop .n) (leadingOf x)) e)))
+    let at-start = c .before .before .before in
+    let e : fieldsFrom (at-start .args .line .now) (c .before .loop .p) ≡ [] = fields-none (at-start .args .line .now) (c .before .loop .p) (omega arith) in
+    let n : countAll 0 (fieldsFrom (at-start .args .line .now) (at-start .args .from)) ≡ Count (c .before .loop .n) = c .before .loop .inv .2 ∙ ap (countAll (c .before .loop .n)) e in (
+      sym n,
+      sym
+          (ap (λ x. sets (at-start .args .list .now) 0 x) (sym (leading-all (fieldsFrom (at-start .args .line .now) (at-start .args .from)) 0 (c .before .loop .n) n))
+          ∙ (c .before .loop .inv .3 ∙ ap (λ x. sets (c .before .loop .list) (c .before .loop .n) (leadingOf x)) e)),
+    )
 
 pub read-numbers-spec : {M : Type 1} → statement M
 read-numbers-spec =

@@ -1,3 +1,4 @@
+-- `read_one`: one number exactly where there is one field and it is a number: then the list holds it (`exactly`).
 use Rattle.text.specs.declared.Whole.the-variants.{Is, Not}
 use Rattle.fields.specs.Fields.{fieldsFrom, valuesOf}
 use Rattle.fields.specs.FieldsLaws.{exactly, not-exactly}
@@ -26,13 +27,19 @@ array-copy-out-t11 c = search needs
 
 returns : tie.Need-returns
 returns c =
-    let f0 : SFits w64 (getD (c .before .before .before .before .read-numbers .last .1 .1 .0) 0 (pos 0)) = search needs in
+    let at-read-numbers = c .before .before .before .before in
+    let f0 : SFits w64 (getD (at-read-numbers .read-numbers .last .1 .1 .0) 0 (pos 0)) = search needs in
+    let at-start = at-read-numbers .before .before .before in
     rw (back f0)
-    (exactly (λ (l : List ℤ). Is (getD l 0 (pos 0))) Not (fieldsFrom (c .before .before .before .before .before .before .before .args .line .now) (c .before .before .before .before .before .before .before .args .from)) (pos 0 ∷ []) (c .before .before .before .before .read-numbers .last .1 .1 .0) 1
-    (c .before .before .before .before .read-numbers .ensures .0) (c .before .before .counted .ensures) (c .before .if1 .taken) refl (c .before .before .before .before .read-numbers .ensures .1))
+    (exactly (λ (l : List ℤ). Is (getD l 0 (pos 0))) Not (fieldsFrom (at-start .args .line .now) (at-start .args .from)) (pos 0 ∷ []) (at-read-numbers .read-numbers .last .1 .1 .0) 1
+    (at-read-numbers .read-numbers .ensures .0) (c .before .before .counted .ensures) (c .before .if1 .taken) refl (at-read-numbers .read-numbers .ensures .1))
 
 returns-2 : tie.Need-returns-2
-returns-2 c = not-exactly (Is (getD (valuesOf (fieldsFrom (c .before .before .before .before .before .before .args .line .now) (c .before .before .before .before .before .before .args .from))) 0 (pos 0))) Not (fieldsFrom (c .before .before .before .before .before .before .args .line .now) (c .before .before .before .before .before .before .args .from)) 1 (c .before .before .before .read-numbers .ensures .0) (c .before .counted .ensures) (c .if1 .left)
+returns-2 c =
+    let at-read-numbers = c .before .before .before in
+    let at-start = at-read-numbers .before .before .before in
+    not-exactly (Is (getD (valuesOf (fieldsFrom (at-start .args .line .now) (at-start .args .from))) 0 (pos 0))) Not
+    (fieldsFrom (at-start .args .line .now) (at-start .args .from)) 1 (at-read-numbers .read-numbers .ensures .0) (c .before .counted .ensures) (c .if1 .left)
 
 pub read-one-spec : {M : Type 1} → statement M
 read-one-spec =

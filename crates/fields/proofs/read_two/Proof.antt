@@ -1,3 +1,4 @@
+-- `read_two`: two numbers exactly where both fields are numbers and there is no other: then the list holds both (`exactly`).
 use Rattle.fields.specs.declared.Two.the-variants.{Are, Not}
 use Rattle.fields.specs.Fields.{fieldsFrom, valuesOf}
 use Rattle.fields.specs.FieldsLaws.{exactly, not-exactly}
@@ -29,14 +30,23 @@ array-copy-out-t14 c = search needs
 
 returns : tie.Need-returns
 returns c =
-    let f0 : SFits w64 (getD (c .before .before .before .before .before .read-numbers .last .1 .1 .0) 0 (pos 0)) = search needs in
-    let f1 : SFits w64 (getD (c .before .before .before .before .before .read-numbers .last .1 .1 .0) 1 (pos 0)) = search needs in
+    let at-read-numbers = c .before .before .before .before .before in
+    let f0 : SFits w64 (getD (at-read-numbers .read-numbers .last .1 .1 .0) 0 (pos 0)) = search needs in
+    let f1 : SFits w64 (getD (at-read-numbers .read-numbers .last .1 .1 .0) 1 (pos 0)) = search needs in
+    let at-counted = c .before .before .before in
+    let at-start = at-read-numbers .before .before .before in
     rw (back f0, back f1)
-    (exactly (λ (l : List ℤ). Are (getD l 0 (pos 0)) (getD l 1 (pos 0))) Not (fieldsFrom (c .before .before .before .before .before .before .before .before .args .line .now) (c .before .before .before .before .before .before .before .before .args .from)) (pos 0 ∷ pos 0 ∷ []) (c .before .before .before .before .before .read-numbers .last .1 .1 .0) 2
-    (c .before .before .before .before .before .read-numbers .ensures .0) (c .before .before .before .counted .ensures) (c .before .before .if1 .taken) refl (c .before .before .before .before .before .read-numbers .ensures .1))
+    (exactly (λ (l : List ℤ). Are (getD l 0 (pos 0)) (getD l 1 (pos 0))) Not (fieldsFrom (at-start .args .line .now) (at-start .args .from))
+    (pos 0 ∷ pos 0 ∷ []) (at-read-numbers .read-numbers .last .1 .1 .0) 2
+    (at-read-numbers .read-numbers .ensures .0) (at-counted .counted .ensures) (c .before .before .if1 .taken) refl (at-read-numbers .read-numbers .ensures .1))
 
 returns-2 : tie.Need-returns-2
-returns-2 c = not-exactly (Are (getD (valuesOf (fieldsFrom (c .before .before .before .before .before .before .args .line .now) (c .before .before .before .before .before .before .args .from))) 0 (pos 0)) (getD (valuesOf (fieldsFrom (c .before .before .before .before .before .before .args .line .now) (c .before .before .before .before .before .before .args .from))) 1 (pos 0))) Not (fieldsFrom (c .before .before .before .before .before .before .args .line .now) (c .before .before .before .before .before .before .args .from)) 2 (c .before .before .before .read-numbers .ensures .0) (c .before .counted .ensures) (c .if1 .left)
+returns-2 c =
+    let at-read-numbers = c .before .before .before in
+    let at-start = at-read-numbers .before .before .before in
+    not-exactly
+    (Are (getD (valuesOf (fieldsFrom (at-start .args .line .now) (at-start .args .from))) 0 (pos 0)) (getD (valuesOf (fieldsFrom (at-start .args .line .now) (at-start .args .from))) 1 (pos 0))) Not
+    (fieldsFrom (at-start .args .line .now) (at-start .args .from)) 2 (at-read-numbers .read-numbers .ensures .0) (c .before .counted .ensures) (c .if1 .left)
 
 pub read-two-spec : {M : Type 1} → statement M
 read-two-spec =

@@ -1,3 +1,4 @@
+-- `burn`: what `admit` tells of the charge goes through to the products: its refusal is told as it is, else the gas burns (`told-through`, `stopped`).
 use borrow.Author.Needs.{needs}
 use mathlib.Core.Path.{_≡_, sym, ap, _∙_}
 use mathlib.Core.List.{[]}

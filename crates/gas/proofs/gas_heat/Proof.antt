@@ -1,3 +1,4 @@
+-- `gas_heat`: a sheet that is not accepted is told first (`stopped-by-sheet`); with an accepted one `gas_heat_judged` tells the rest (`accepted-of-told`).
 use borrow.Author.Needs.{needs}
 use mathlib.Core.Path.{sym, ap, _∙_}
 use mathlib.Core.List.{_++_}
@@ -18,7 +19,10 @@ enum-told : tie.Need-enum-told
 enum-told c = search needs
 
 gas-heat-judged-requires : tie.Need-gas-heat-judged-requires
-gas-heat-judged-requires c κs = (accepted-of-told _ (sym (c .before .before .before .judge .ensures) ∙ ap paperSheet (c .before .enum-told .given .1)), c .before .before .before .before .before .heat-column .ensures)
+gas-heat-judged-requires c κs =
+    let at-judge = c .before .before .before in
+    let at-heat-column = at-judge .before .before in
+    (accepted-of-told _ (sym (at-judge .judge .ensures) ∙ ap paperSheet (c .before .enum-told .given .1)), at-heat-column .heat-column .ensures)
 
 enum-known-r : tie.Need-enum-known-r
 enum-known-r c = search needs
@@ -28,8 +32,11 @@ returns c = c .gas-heat-judged .ensures
 
 returns-2 : tie.Need-returns-2
 returns-2 c =
-    let s = c .before .before .before .before .before .before .before in
-    sym (stopped-by-sheet (s .args .sheet .now) (c .before .r .given .0 .0) (chargeLines document01 (s .args .charge) ++ temperatureLines (s .args .t .0)) _ (ap paperSheet (sym (c .before .r .given .1)) ∙ c .before .before .before .judge .ensures))
+    let at-judge = c .before .before .before in
+    let s = at-judge .before .before .before .before in
+    sym
+    (stopped-by-sheet (s .args .sheet .now) (c .before .r .given .0 .0) (chargeLines document01 (s .args .charge) ++ temperatureLines (s .args .t .0)) _
+    (ap paperSheet (sym (c .before .r .given .1)) ∙ at-judge .judge .ensures))
 
 pub gas-heat-spec : {M : Type 1} → statement M
 gas-heat-spec = tie.close (tie.spec heat-column-requires judge-requires enum-told gas-heat-judged-requires enum-known-r returns returns-2)

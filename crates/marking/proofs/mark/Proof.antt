@@ -28,7 +28,8 @@ inside-requires c κs = search needs
 returns : tie.Need-returns
 returns c =
     let s = c .before .before in
-    sym (rw (key-outside (s .args .key) (s .args .window) (sym (in-plain (negℤ (pos 1000000000000)) (pos 1000000000000) (s .fits .key) (c .before .inside .ensures)) ∙ not-true _ (c .if1 .taken))) refl)
+    sym
+    (rw (key-outside (s .args .key) (s .args .window) (sym (in-plain (negℤ (pos 1000000000000)) (pos 1000000000000) (s .fits .key) (c .before .inside .ensures)) ∙ not-true _ (c .if1 .taken))) refl)
 
 inside-requires-2 : tie.Need-inside-requires-2
 inside-requires-2 c κs = search needs
@@ -42,13 +43,17 @@ enum-known-typed : tie.Need-enum-known-typed
 enum-known-typed c = search needs
 
 mark-number-requires : tie.Need-mark-number-requires
-mark-number-requires c κs = let s = c .before .before .before .before .before .before .before in (lit< tt, (lit≤ tt, rw (back (s .fits .key), back (s .fits .window)) (in-range (c .before .before .before))))
+mark-number-requires c κs =
+    let at-in-range = c .before .before .before in
+    let s = at-in-range .before .before .before .before in (lit< tt, (lit≤ tt, rw (back (s .fits .key), back (s .fits .window)) (in-range at-in-range)))
 
 enum-known-typed-2 : tie.Need-enum-known-typed-2
 enum-known-typed-2 c = search needs
 
 mark-number-requires-2 : tie.Need-mark-number-requires-2
-mark-number-requires-2 c κs = let s = c .before .before .before .before .before .before .before in (lit< tt, (lit≤ tt, rw (back (s .fits .key), back (s .fits .window)) (in-range (c .before .before .before))))
+mark-number-requires-2 c κs =
+    let at-in-range = c .before .before .before in
+    let s = at-in-range .before .before .before .before in (lit< tt, (lit≤ tt, rw (back (s .fits .key), back (s .fits .window)) (in-range at-in-range)))
 
 enum-told : tie.Need-enum-told
 enum-told c = search needs

@@ -22,7 +22,8 @@ use Rattle.marking.proofs.station.Statement.{statement}
 use Rattle.marking.proofs.station.Tie as tie
 
 -- what the door told of the numbers
-given-numbers : (c : tie.After-n) → let s = c .before .before .before .before .before .before .before .before .before .before in gives (c .n .given .0 .0) ≡ numbersTold (s .args .charge) (s .args .t .0) (s .args .sheet .now)
+given-numbers : (c : tie.After-n) → let s = c .before .before .before .before .before .before .before .before .before .before in
+    gives (c .n .given .0 .0) ≡ numbersTold (s .args .charge) (s .args .t .0) (s .args .sheet .now)
 given-numbers c = ap paperNumbers (sym (c .n .given .1)) ∙ c .before .before .station-judged .ensures
 
 small : (c : tie.After-n) → Small (c .n .given .0 .0 .mk) (c .n .given .0 .0 .specific) (c .n .given .0 .0 .mass)
@@ -45,7 +46,10 @@ enum-told : tie.Need-enum-told
 enum-told c = search needs
 
 station-judged-requires : tie.Need-station-judged-requires
-station-judged-requires c κs = (accepted-of-told _ (sym (c .before .before .before .judge .ensures) ∙ ap paperSheet (c .before .enum-told .given .1)), c .before .before .before .before .before .heat-column .ensures)
+station-judged-requires c κs =
+    let at-judge = c .before .before .before in
+    let at-heat-column = at-judge .before .before in
+    (accepted-of-told _ (sym (at-judge .judge .ensures) ∙ ap paperSheet (c .before .enum-told .given .1)), at-heat-column .heat-column .ensures)
 
 enum-known-n : tie.Need-enum-known-n
 enum-known-n c = search needs
@@ -60,19 +64,27 @@ enum-known-r-2 c = search needs
 
 returns : tie.Need-returns
 returns c =
-    let s = c .before .before .before .before .before .before .before in
-    sym (stopped-by-sheet (s .args .sheet .now) (c .before .r .given .0 .0) (chargeLines document01 (s .args .charge) ++ temperatureLines (s .args .t .0)) _ (ap paperSheet (sym (c .before .r .given .1)) ∙ c .before .before .before .judge .ensures))
+    let at-judge = c .before .before .before in
+    let s = at-judge .before .before .before .before in
+    sym
+    (stopped-by-sheet (s .args .sheet .now) (c .before .r .given .0 .0) (chargeLines document01 (s .args .charge) ++ temperatureLines (s .args .t .0)) _
+    (ap paperSheet (sym (c .before .r .given .1)) ∙ at-judge .judge .ensures))
 
 returns-2 : tie.Need-returns-2
 returns-2 c =
-    let s = c .before .before .before .before .before .before .before .before .before .before .before .before .before .before .before in
-    told-through (heatOrder document01 (s .args .charge) (s .args .t .0) (s .args .sheet .now)) (numbersOf (s .args .sheet .now) (s .args .t .0) (gasOf (s .args .charge))) (λ (n : StationNumbers). figuresOf (n .mk) (n .specific) (n .mass)) (given-numbers (c .before .before .before .before .before))
-    (let m = small (c .before .before .before .before .before) in c .figures .ensures ∙ rw (back (fits _ (m .mk-small)), back (fits _ (m .specific-small)), back (fits _ (m .mass-small))) refl)
+    let at-given-numbers = c .before .before .before .before .before in
+    let s = at-given-numbers .before .before .before .before .before .before .before .before .before .before in
+    told-through (heatOrder document01 (s .args .charge) (s .args .t .0) (s .args .sheet .now))
+    (numbersOf (s .args .sheet .now) (s .args .t .0) (gasOf (s .args .charge))) (λ (n : StationNumbers). figuresOf (n .mk) (n .specific) (n .mass))
+    (given-numbers at-given-numbers)
+    (let m = small at-given-numbers in c .figures .ensures ∙ rw (back (fits _ (m .mk-small)), back (fits _ (m .specific-small)), back (fits _ (m .mass-small))) refl)
 
 returns-3 : tie.Need-returns-3
 returns-3 c =
-    let s = c .before .before .before .before .before .before .before .before .before .before .before in
-    stopped-first (heatOrder document01 (s .args .charge) (s .args .t .0) (s .args .sheet .now)) [] _ _ (c .before .r2 .given .0 .0) (ap paperNumbers (sym (c .before .r2 .given .1)) ∙ c .before .before .before .station-judged .ensures)
+    let at-station-judged = c .before .before .before in
+    let s = at-station-judged .before .before .before .before .before .before .before .before in
+    stopped-first (heatOrder document01 (s .args .charge) (s .args .t .0) (s .args .sheet .now)) [] _ _ (c .before .r2 .given .0 .0)
+    (ap paperNumbers (sym (c .before .r2 .given .1)) ∙ at-station-judged .station-judged .ensures)
 
 pub station-spec : {M : Type 1} → statement M
 station-spec =

@@ -1,3 +1,4 @@
+-- `figure`: the row of a kelvin stands 200 places before it in the column, inside the rows (`column-in`).
 use borrow.Author.Needs.{needs}
 use mathlib.Core.Path.{_∙_}
 use Rattle.rows.specs.TableLaws.{column-in}

@@ -1,3 +1,4 @@
+-- `inside`: true exactly for lo ≤ x ≤ hi, one case for each way that the two comparisons fall.
 use mathlib.Core.Path.{refl, sym, _∙_}
 use Rattle.signed.specs.Zed.{le-read, in-no, in-yes}
 use Rattle.signed.proofs.inside.Statement.{statement}

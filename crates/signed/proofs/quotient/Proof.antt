@@ -1,3 +1,4 @@
+-- `quotient`: the machine's division is the paper's, the fraction dropped toward zero; dividing by 1 or more never overflows (`quot-fits`).
 use borrow.Author.Needs.{needs}
 use Rattle.signed.specs.Zed.{back, back-pos, quot-fits}
 use Rattle.signed.proofs.quotient.Statement.{statement}

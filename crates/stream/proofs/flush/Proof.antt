@@ -1,3 +1,4 @@
+-- `flush`: an open output is at its start afterwards, or closed where not all was taken; a closed one stays closed (`after-flushed`).
 use Rattle.stream.specs.WritingLaws.{after-flushed}
 use mathlib.Core.Path.{refl}
 use borrow.Author.Needs.{needs}
@@ -29,7 +30,9 @@ after-requires : tie.Need-after-requires
 after-requires c κs = search needs
 
 returns-2 : tie.Need-returns-2
-returns-2 c = rw (c .before .before .before .before .before .output .given .1, c .after .ensures) (after-flushed (c .before .before .before .before .before .output .given .0 .0) (c .before .before .write-first .result))
+returns-2 c =
+    let at-output = c .before .before .before .before .before in
+    rw (at-output .output .given .1, c .after .ensures) (after-flushed (at-output .output .given .0 .0) (c .before .before .write-first .result))
 
 pub flush-spec : {M : Type 1} → statement M
 flush-spec =

@@ -1,3 +1,4 @@
+-- `make_room`: an output less than half full stays as it is; from half full on it is flushed, so half of the buffer is free or it is closed.
 use native.Mathlib.Omega.{arith}
 use mathlib.Core.Path.{refl}
 use borrow.Author.Needs.{needs}

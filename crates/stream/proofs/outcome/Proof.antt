@@ -1,3 +1,4 @@
+-- `outcome`: a write that took bytes, took none and may be tried again, or failed: `outcomeOf`, one case each.
 use native.Mathlib.Omega.{arith}
 use mathlib.Core.Path.{refl}
 use borrow.Author.Tests.{lt-ltb, le-ltb}

@@ -1,3 +1,4 @@
+-- `push`: the byte stands behind the line where the buffer has room, else the line is Over, and stays so: `pushed`.
 use borrow.Author.Needs.{needs}
 use borrow.Author.Tests.{lt-ltb, le-ltb}
 use lib.ListN.{length}

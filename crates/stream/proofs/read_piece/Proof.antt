@@ -1,3 +1,4 @@
+-- `read_piece`: no more bytes than the piece has places, and 0 at the end of the input or after a failure.
 use Rattle.stream.specs.Taking.{Inside}
 use Rattle.stream.specs.declared.Got.{Got}
 use mathlib.Core.Path.{subst}
@@ -24,7 +25,9 @@ same-length : tie.Need-same-length
 same-length c = search needs
 
 returns : tie.Need-returns
-returns c = subst (λ (g : Got). Inside g (c .before .before .before .before .before .read-some .last .1 .1 .0)) (c .before .n .given .1) (c .before .before .before .before .before .read-some .ensures)
+returns c =
+    let at-read-some = c .before .before .before .before .before in
+    subst (λ (g : Got). Inside g (at-read-some .read-some .last .1 .1 .0)) (c .before .n .given .1) (at-read-some .read-some .ensures)
 
 same-length-2 : tie.Need-same-length-2
 same-length-2 c = search needs

@@ -1,4 +1,5 @@
--- `take_line`: what is left to take gives the whole taking. Assumes nothing.
+-- `take_line`: byte after byte up to a line feed or the end of the piece, it takes the line that stands in the piece (`Takes`).
+-- Invariant: what is left to take, on top of what is held, gives the whole taking (`Left`). Measure: the bytes of the piece that are left.
 use mathlib.Core.Bool.{true, false}
 use mathlib.Core.List.{List}
 use mathlib.Core.Path.{_≡_, refl, sym, ap, _∙_}

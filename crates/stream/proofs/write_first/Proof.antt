@@ -1,3 +1,5 @@
+-- `write_first`: it never writes past the bytes that it was given, and ends.
+-- Invariant: from is at most end, and end at most the buffer's length (`took-most`). Measure: the turns, which every turn counts down.
 use Rattle.stream.specs.WritingLaws.{took-most}
 use native.Mathlib.Omega.{arith}
 use borrow.Author.Needs.{needs}
@@ -37,13 +39,21 @@ enum-known-n : tie.Need-enum-known-n Inv-loop μ-loop
 enum-known-n c = search needs
 
 add-from : tie.Need-add-from Inv-loop μ-loop
-add-from c = omega (arith, took-most (c .before .before .before .before .before .before .before .before .before .args .out .now) (c .before .before .before .before .before .before .before .loop .from) (c .before .before .before .before .before .before .before .before .before .args .end) (c .before .n .given .1) (c .before .before .before .write-part .ensures))
+add-from c =
+    let at-write-part = c .before .before .before in
+    let at-loop = at-write-part .before .before .before .before in
+    let at-start = at-loop .before .before in
+    omega (arith, took-most (at-start .args .out .now) (at-loop .loop .from) (at-start .args .end) (c .before .n .given .1) (at-write-part .write-part .ensures))
 
 loop-less : tie.Need-loop-less Inv-loop μ-loop
 loop-less c = search needs
 
 loop-again : tie.Need-loop-again Inv-loop μ-loop
-loop-again c = omega (arith, took-most (c .before .before .before .before .before .before .before .before .before .args .out .now) (c .before .before .before .before .before .before .before .loop .from) (c .before .before .before .before .before .before .before .before .before .args .end) (c .before .n .given .1) (c .before .before .before .write-part .ensures))
+loop-again c =
+    let at-write-part = c .before .before .before in
+    let at-loop = at-write-part .before .before .before .before in
+    let at-start = at-loop .before .before in
+    omega (arith, took-most (at-start .args .out .now) (at-loop .loop .from) (at-start .args .end) (c .before .n .given .1) (at-write-part .write-part .ensures))
 
 enum-told : tie.Need-enum-told Inv-loop μ-loop
 enum-told c = search needs

@@ -1,3 +1,4 @@
+-- `write_part`: a write takes no more bytes than it was handed, by what libc's write promises (`outcome-within`).
 use Rattle.stream.specs.declared.Wrote.{Wrote}
 use Rattle.stream.specs.WritingLaws.{outcome-within}
 use Rattle.stream.specs.Writing.{Within}
@@ -22,7 +23,10 @@ outcome-requires : tie.Need-outcome-requires
 outcome-requires c κs = search needs
 
 returns : tie.Need-returns
-returns c = subst⁻¹ (λ (w : Wrote). Within w (c .before .before .before .before .before .before .args .part .now)) (c .outcome .ensures) (outcome-within (c .before .before .before .before .before .before .args .part .now) (c .before .count .result) (c .before .before .passes .result) (c .before .count .ensures .0 .0))
+returns c =
+    let at-start = c .before .before .before .before .before .before in
+    subst⁻¹ (λ (w : Wrote). Within w (at-start .args .part .now)) (c .outcome .ensures)
+    (outcome-within (at-start .args .part .now) (c .before .count .result) (c .before .before .passes .result) (c .before .count .ensures .0 .0))
 
 pub write-part-spec : {M : Type 1} → statement M
 write-part-spec =

@@ -1,3 +1,4 @@
+-- `extend`: a digit that may follow keeps ten times the number and the digit within the limit (`follow-most`), so nothing overflows; any other is Bad.
 use mathlib.Core.Path.{_≡_, refl, sym, _∙_}
 use mathlib.Core.Bool.{true, false}
 use native.Mathlib.Omega.{arith}
@@ -11,10 +12,18 @@ may-follow-requires : tie.Need-may-follow-requires
 may-follow-requires c κs = search needs
 
 mul-t7 : tie.Need-mul-t7
-mul-t7 c = omega (arith, follow-most (c .before .before .args .limit) (c .before .before .args .seen) (c .before .before .args .v) (c .before .before .args .d) (sym (c .before .may-follow .ensures) ∙ c .if1 .taken))
+mul-t7 c =
+    omega (
+      arith,
+      follow-most (c .before .before .args .limit) (c .before .before .args .seen) (c .before .before .args .v) (c .before .before .args .d) (sym (c .before .may-follow .ensures) ∙ c .if1 .taken),
+    )
 
 add-t9 : tie.Need-add-t9
-add-t9 c = omega (arith, follow-most (c .before .before .args .limit) (c .before .before .args .seen) (c .before .before .args .v) (c .before .before .args .d) (sym (c .before .may-follow .ensures) ∙ c .if1 .taken))
+add-t9 c =
+    omega (
+      arith,
+      follow-most (c .before .before .args .limit) (c .before .before .args .seen) (c .before .before .args .v) (c .before .before .args .d) (sym (c .before .may-follow .ensures) ∙ c .if1 .taken),
+    )
 
 returns : tie.Need-returns
 unfolding extended

@@ -1,3 +1,4 @@
+-- `is_digit`: the two comparisons are `isDigit`, bytes 48 to 57.
 use borrow.Author.Tests.{lt-leb, le-leb}
 use Rattle.text.specs.Wholes.{isDigit}
 use Rattle.text.proofs.is_digit.Statement.{statement}

@@ -1,3 +1,4 @@
+-- `may_follow`: the code never forms ten times a number above the limit's tenth, and decides as `mayFollow` does in each case.
 use mathlib.Core.Path.{_≡_}
 use Prim.Native.Nat.{_+_, _*_}
 use native.Mathlib.Omega.{arith}
@@ -24,7 +25,9 @@ returns-2 c = simp (eq-eqb _ _ (c .before .if2 .taken), c .if3 .taken)
 
 returns-3 : tie.Need-returns-3
 unfolding mayFollow
-returns-3 c = let e : 10 * c .before .before .before .args .v + c .before .before .before .args .d ≡ c .before .before .before .args .d = omega arith in simp (eq-eqb _ _ (c .before .if2 .taken), c .if3 .left, e)
+returns-3 c =
+    let at-start = c .before .before .before in
+    let e : 10 * at-start .args .v + at-start .args .d ≡ at-start .args .d = omega arith in simp (eq-eqb _ _ (c .before .if2 .taken), c .if3 .left, e)
 
 returns-4 : tie.Need-returns-4
 unfolding mayFollow

@@ -1,3 +1,4 @@
+-- `minus`: digits up to 2^63 after a minus sign are a number below zero, 2^63 itself too, and -0 is none: `minusOf`.
 use mathlib.Core.Path.{sym, _∙_, ap, subst}
 use Prim.Native.Nat.{_-_, _≤_}
 use native.Mathlib.Omega.{arith}
@@ -36,7 +37,9 @@ returns-2 : tie.Need-returns-2
 returns-2 c = search needs
 
 returns-3 : tie.Need-returns-3
-returns-3 c = ap Is (minus-is (c .before .before .d .given .0 .0 - 1) (low c)) ∙ sym (minus-value (c .before .before .before .before .args .d) (c .before .before .d .given .0 .0) (c .before .before .d .given .1) (c .if1 .left))
+returns-3 c =
+    let at-start = c .before .before .before .before in
+    ap Is (minus-is (c .before .before .d .given .0 .0 - 1) (low c)) ∙ sym (minus-value (at-start .args .d) (c .before .before .d .given .0 .0) (c .before .before .d .given .1) (c .if1 .left))
 
 returns-4 : tie.Need-returns-4
 returns-4 c = search needs

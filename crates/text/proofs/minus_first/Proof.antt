@@ -1,3 +1,4 @@
+-- `minus_first`: an empty text begins with nothing, any other with its first byte, which is a minus sign where it is 45.
 use borrow.Author.Needs.{needs}
 use Rattle.text.proofs.Signs.{first-none, first-some}
 use Rattle.text.proofs.minus_first.Statement.{statement}

@@ -1,3 +1,4 @@
+-- `plus`: digits up to 2^63 - 1 are that number, with a sign bit that is clear (`back-pos`): `plusOf`.
 use mathlib.Core.Path.{sym, _∙_, ap, subst}
 use native.Mathlib.Omega.{arith}
 use borrow.Author.Needs.{needs}
@@ -24,7 +25,9 @@ returns : tie.Need-returns
 returns c = search needs
 
 returns-2 : tie.Need-returns-2
-returns-2 c = ap Is (back-pos {n = c .before .d .given .0 .0} (omega (arith, subst (Within 9223372036854775807) (c .before .d .given .1) (c .before .before .before .pre)))) ∙ sym (ap plusOf (c .before .d .given .1))
+returns-2 c =
+    let at-start = c .before .before .before in
+    ap Is (back-pos {n = c .before .d .given .0 .0} (omega (arith, subst (Within 9223372036854775807) (c .before .d .given .1) (at-start .pre)))) ∙ sym (ap plusOf (c .before .d .given .1))
 
 returns-3 : tie.Need-returns-3
 returns-3 c = search needs

@@ -1,3 +1,5 @@
+-- `read_digits`: a step for each byte reads what `digitsOf` reads of the whole text (`run-more`).
+-- Invariant: s is what the steps make of the first i bytes. Measure: the bytes that are left.
 use mathlib.Core.Path.{_≡_, refl, sym, _∙_, ap}
 use Prim.Native.Nat.{_≤_, _-_}
 use native.Mathlib.Omega.{arith}
@@ -32,11 +34,19 @@ loop-less : tie.Need-loop-less Inv-loop μ-loop
 loop-less c = omega arith
 
 loop-again : tie.Need-loop-again Inv-loop μ-loop
-loop-again c = (omega arith, (c .step-digits .ensures ∙ ap (λ x. stepDigits (c .before .before .before .before .before .args .limit) x (getD (c .before .before .before .before .before .args .text .now) (c .before .before .before .loop .i) 0)) (c .before .before .before .loop .inv .1)) ∙ sym (run-more (stepDigits (c .before .before .before .before .before .args .limit)) Empty (c .before .before .before .before .before .args .text .now) (c .before .before .before .loop .i) (omega arith)))
+loop-again c =
+    let at-loop = c .before .before .before in
+    let at-start = at-loop .before .before in (
+      omega arith,
+      (c .step-digits .ensures ∙ ap (λ x. stepDigits (at-start .args .limit) x (getD (at-start .args .text .now) (at-loop .loop .i) 0)) (at-loop .loop .inv .1))
+          ∙ sym (run-more (stepDigits (at-start .args .limit)) Empty (at-start .args .text .now) (at-loop .loop .i) (omega arith)),
+    )
 
 returns : tie.Need-returns Inv-loop μ-loop
 unfolding digitsOf
-returns c = c .before .loop .inv .1 ∙ ap (run (stepDigits (c .before .before .before .args .limit)) Empty) (take-all (c .before .loop .i) (c .before .before .before .args .text .now) (omega arith))
+returns c =
+    let at-start = c .before .before .before in
+    c .before .loop .inv .1 ∙ ap (run (stepDigits (at-start .args .limit)) Empty) (take-all (c .before .loop .i) (at-start .args .text .now) (omega arith))
 
 pub read-digits-spec : {M : Type 1} → statement M
 read-digits-spec =

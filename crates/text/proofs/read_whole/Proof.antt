@@ -1,3 +1,4 @@
+-- `read_whole`: the sign decides which limit the digits keep, 2^63 after a minus and 2^63 - 1 else (`within`), so the number fits: `wholeOf`.
 use mathlib.Core.Bool.{true, false}
 use mathlib.Core.Path.{_≡_, sym, _∙_, ap, subst}
 use Prim.Native.Nat.{_-_}
@@ -30,7 +31,14 @@ minus-requires c κs = subst (Within 9223372036854775808) (sym (c .read-digits .
 
 returns : tie.Need-returns
 unfolding wholeOf
-returns c = let q : minusFirst (c .before .before .before .before .before .before .args .text .now) ≡ true = sym (c .before .before .before .before .minus-first .ensures) ∙ c .before .before .before .if1 .taken in rw q (c .minus .ensures ∙ ap minusOf (c .before .read-digits .ensures ∙ ap (digitsOf 9223372036854775808) (tail-is (c .before .before .before .before .before .before .args .text .now) 1 (length (c .before .before .before .before .before .before .args .text .now) - 1) (omega arith))))
+returns c =
+    let at-if1 = c .before .before .before in
+    let at-minus-first = at-if1 .before in
+    let at-start = at-minus-first .before .before in
+    let q : minusFirst (at-start .args .text .now) ≡ true = sym (at-minus-first .minus-first .ensures) ∙ at-if1 .if1 .taken in
+    rw q
+    (c .minus .ensures
+    ∙ ap minusOf (c .before .read-digits .ensures ∙ ap (digitsOf 9223372036854775808) (tail-is (at-start .args .text .now) 1 (length (at-start .args .text .now) - 1) (omega arith))))
 
 read-digits-requires-2 : tie.Need-read-digits-requires-2
 read-digits-requires-2 c κs = search needs
@@ -40,7 +48,11 @@ plus-requires c κs = subst (Within 9223372036854775807) (sym (c .read-digits2 .
 
 returns-2 : tie.Need-returns-2
 unfolding wholeOf
-returns-2 c = let q : minusFirst (c .before .before .before .before .before .args .text .now) ≡ false = sym (c .before .before .before .minus-first .ensures) ∙ c .before .before .if1 .left in rw q (c .plus .ensures ∙ ap plusOf (c .before .read-digits2 .ensures))
+returns-2 c =
+    let at-minus-first = c .before .before .before in
+    let at-start = at-minus-first .before .before in
+    let q : minusFirst (at-start .args .text .now) ≡ false = sym (at-minus-first .minus-first .ensures) ∙ c .before .before .if1 .left in
+    rw q (c .plus .ensures ∙ ap plusOf (c .before .read-digits2 .ensures))
 
 pub read-whole-spec : {M : Type 1} → statement M
 read-whole-spec =

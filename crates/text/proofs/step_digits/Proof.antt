@@ -1,3 +1,4 @@
+-- `step_digits`: a byte that is no digit is Bad, a digit extends what was read, with its value from 0 to 9 (`digit-range`).
 use mathlib.Core.Path.{_≡_, refl, sym, _∙_}
 use mathlib.Core.Bool.{true, false}
 use borrow.Author.Tests.{not-true, not-false}
@@ -37,15 +38,26 @@ enum-told-2 c = search needs
 
 returns-2 : tie.Need-returns-2
 unfolding stepDigits
-returns-2 c = let t : isDigit (c .before .before .before .before .before .args .b) ≡ true = sym (c .before .before .before .before .is-digit .ensures) ∙ not-false _ (c .before .before .before .if1 .left) in rw (c .before .enum-told .given .1, t) (c .extend .ensures)
+returns-2 c =
+    let at-if1 = c .before .before .before in
+    let at-is-digit = at-if1 .before in
+    let at-start = at-is-digit .before in
+    let t : isDigit (at-start .args .b) ≡ true = sym (at-is-digit .is-digit .ensures) ∙ not-false _ (at-if1 .if1 .left) in rw (c .before .enum-told .given .1, t) (c .extend .ensures)
 
 returns-3 : tie.Need-returns-3
 unfolding stepDigits
-returns-3 c = let t : isDigit (c .before .before .before .before .before .before .args .b) ≡ true = sym (c .before .before .before .before .before .is-digit .ensures) ∙ not-false _ (c .before .before .before .before .if1 .left) in rw (c .before .before .s .given .1, t) (c .extend2 .ensures)
+returns-3 c =
+    let at-if1 = c .before .before .before .before in
+    let at-is-digit = at-if1 .before in
+    let at-start = at-is-digit .before in
+    let t : isDigit (at-start .args .b) ≡ true = sym (at-is-digit .is-digit .ensures) ∙ not-false _ (at-if1 .if1 .left) in rw (c .before .before .s .given .1, t) (c .extend2 .ensures)
 
 returns-4 : tie.Need-returns-4
 unfolding stepDigits
-returns-4 c = let t : isDigit (c .before .before .before .before .args .b) ≡ true = sym (c .before .before .before .is-digit .ensures) ∙ not-false _ (c .before .before .if1 .left) in rw (c .enum-told2 .given .1, t) refl
+returns-4 c =
+    let at-is-digit = c .before .before .before in
+    let at-start = at-is-digit .before in
+    let t : isDigit (at-start .args .b) ≡ true = sym (at-is-digit .is-digit .ensures) ∙ not-false _ (c .before .before .if1 .left) in rw (c .enum-told2 .given .1, t) refl
 
 pub step-digits-spec : {M : Type 1} → statement M
 step-digits-spec =

@@ -1,3 +1,4 @@
+-- `finish`: only a whole number or a fraction with a digit after its point says a number: its digits over a power of ten, with the sign.
 use Rattle.typed.specs.declared.Number.the-variants.{Is}
 use Rattle.typed.specs.Typed.{Small, withSign, finishOf}
 use mathlib.Core.Path.{sym, _∙_, ap, subst}
@@ -37,13 +38,19 @@ returns : tie.Need-returns
 returns c = search needs
 
 returns-2 : tie.Need-returns-2
-returns-2 c = ap Is (c .with-sign .ensures ∙ ap (withSign (c .before .before .before .before .before .args .negative)) (c .before .quotient .ensures)) ∙ sym (ap (finishOf (c .before .before .before .before .before .args .negative)) (c .before .before .before .s .given .1))
+returns-2 c =
+    let at-s = c .before .before .before in
+    let at-start = at-s .before .before in
+    ap Is (c .with-sign .ensures ∙ ap (withSign (at-start .args .negative)) (c .before .quotient .ensures)) ∙ sym (ap (finishOf (at-start .args .negative)) (at-s .s .given .1))
 
 returns-3 : tie.Need-returns-3
 returns-3 c = search needs
 
 returns-4 : tie.Need-returns-4
-returns-4 c = ap Is (c .with-sign2 .ensures ∙ ap (withSign (c .before .before .before .before .before .args .negative)) (c .before .quotient2 .ensures)) ∙ sym (ap (finishOf (c .before .before .before .before .before .args .negative)) (c .before .before .before .s2 .given .1))
+returns-4 c =
+    let at-s2 = c .before .before .before in
+    let at-start = at-s2 .before .before in
+    ap Is (c .with-sign2 .ensures ∙ ap (withSign (at-start .args .negative)) (c .before .quotient2 .ensures)) ∙ sym (ap (finishOf (at-start .args .negative)) (at-s2 .s2 .given .1))
 
 returns-5 : tie.Need-returns-5
 returns-5 c = search needs

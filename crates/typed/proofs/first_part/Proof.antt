@@ -1,3 +1,4 @@
+-- `first_part`: a first digit is the number so far; any other first byte, a point too, is Bad.
 use Rattle.typed.proofs.Parts.{taken-digit}
 use Rattle.typed.specs.Typed.{firstPart}
 use Rattle.typed.specs.Typed.{takes}

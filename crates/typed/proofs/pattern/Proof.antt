@@ -1,3 +1,4 @@
+-- `pattern`: hexadecimal digits that were read are the float with these bits, Bad is no number.
 use Rattle.typed.specs.declared.Number.the-variants.{Is}
 use Rattle.typed.specs.Typed.{patternOf}
 use mathlib.Core.Path.{sym, _∙_, ap}

@@ -1,3 +1,4 @@
+-- `read_decimal`: a minus sign is taken off and given back at the end; what is between is `partOf` the rest: `decimalOf`.
 use Rattle.typed.proofs.Parts.{small}
 use Rattle.typed.specs.Typed.{Small, finishOf, partOf, decimalOf}
 use Rattle.typed.proofs.Parts.{first-long, tail-is}
@@ -29,7 +30,12 @@ finish-requires c κs = subst Small (sym (c .read-part .ensures)) (small _)
 
 returns : tie.Need-returns
 unfolding decimalOf
-returns c = let q : minusFirst (c .before .before .before .before .before .before .args .text .now) ≡ true = sym (c .before .before .before .before .minus-first .ensures) ∙ c .before .before .before .if1 .taken in rw q (c .finish .ensures ∙ ap (finishOf true) (c .before .read-part .ensures ∙ ap partOf (tail-is (c .before .before .before .before .before .before .args .text .now))))
+returns c =
+    let at-if1 = c .before .before .before in
+    let at-minus-first = at-if1 .before in
+    let at-start = at-minus-first .before .before in
+    let q : minusFirst (at-start .args .text .now) ≡ true = sym (at-minus-first .minus-first .ensures) ∙ at-if1 .if1 .taken in
+    rw q (c .finish .ensures ∙ ap (finishOf true) (c .before .read-part .ensures ∙ ap partOf (tail-is (at-start .args .text .now))))
 
 read-part-requires-2 : tie.Need-read-part-requires-2
 read-part-requires-2 c κs = search needs
@@ -39,7 +45,11 @@ finish-requires-2 c κs = subst Small (sym (c .read-part2 .ensures)) (small _)
 
 returns-2 : tie.Need-returns-2
 unfolding decimalOf
-returns-2 c = let q : minusFirst (c .before .before .before .before .before .args .text .now) ≡ false = sym (c .before .before .before .minus-first .ensures) ∙ c .before .before .if1 .left in rw q (c .finish2 .ensures ∙ ap (finishOf false) (c .before .read-part2 .ensures))
+returns-2 c =
+    let at-minus-first = c .before .before .before in
+    let at-start = at-minus-first .before .before in
+    let q : minusFirst (at-start .args .text .now) ≡ false = sym (at-minus-first .minus-first .ensures) ∙ c .before .before .if1 .left in
+    rw q (c .finish2 .ensures ∙ ap (finishOf false) (c .before .read-part2 .ensures))
 
 pub read-decimal-spec : {M : Type 1} → statement M
 read-decimal-spec =

@@ -1,3 +1,4 @@
+-- `read_number`: `x` and 16 more bytes are a bit pattern, any other text is read in decimal: `numberOf`.
 use Rattle.typed.proofs.Parts.{long-pattern}
 use Rattle.typed.specs.Typed.{isPattern, numberOf, patternOf, hexOf}
 use Rattle.typed.proofs.Parts.{tail-is}
@@ -28,7 +29,12 @@ pattern-requires c κs = search needs
 
 returns : tie.Need-returns
 unfolding numberOf
-returns c = let q : isPattern (c .before .before .before .before .before .before .args .text .now) ≡ true = sym (c .before .before .before .before .is-pattern .ensures) ∙ c .before .before .before .if1 .taken in rw q (c .pattern .ensures ∙ ap patternOf (c .before .read-hex .ensures ∙ ap hexOf (tail-is (c .before .before .before .before .before .before .args .text .now))))
+returns c =
+    let at-if1 = c .before .before .before in
+    let at-is-pattern = at-if1 .before in
+    let at-start = at-is-pattern .before .before in
+    let q : isPattern (at-start .args .text .now) ≡ true = sym (at-is-pattern .is-pattern .ensures) ∙ at-if1 .if1 .taken in
+    rw q (c .pattern .ensures ∙ ap patternOf (c .before .read-hex .ensures ∙ ap hexOf (tail-is (at-start .args .text .now))))
 
 read-decimal-requires : tie.Need-read-decimal-requires
 read-decimal-requires c κs = search needs

@@ -1,3 +1,5 @@
+-- `read_part`: a step for each byte reads what `partOf` reads of the whole text (`run-more`).
+-- Invariant: s is what the steps make of the first i bytes. Measure: the bytes that are left.
 use Rattle.typed.specs.declared.Part.the-variants.{Start}
 use Rattle.typed.specs.Typed.{stepPart, partOf}
 use Rattle.text.specs.Fold.{run}
@@ -32,7 +34,13 @@ loop-less : tie.Need-loop-less Inv-loop μ-loop
 loop-less c = omega arith
 
 loop-again : tie.Need-loop-again Inv-loop μ-loop
-loop-again c = (omega arith, (c .step-part .ensures ∙ ap (λ x. stepPart x (getD (c .before .before .before .before .before .args .text .now) (c .before .before .before .loop .i) 0)) (c .before .before .before .loop .inv .1)) ∙ sym (run-more stepPart Start (c .before .before .before .before .before .args .text .now) (c .before .before .before .loop .i) (omega arith)))
+loop-again c =
+    let at-loop = c .before .before .before in
+    let at-start = at-loop .before .before in (
+      omega arith,
+      (c .step-part .ensures ∙ ap (λ x. stepPart x (getD (at-start .args .text .now) (at-loop .loop .i) 0)) (at-loop .loop .inv .1))
+          ∙ sym (run-more stepPart Start (at-start .args .text .now) (at-loop .loop .i) (omega arith)),
+    )
 
 returns : tie.Need-returns Inv-loop μ-loop
 unfolding partOf

@@ -1,3 +1,4 @@
+-- `step_part`: what was read decides which byte may come next; each case is the function for it.
 use borrow.Author.Needs.{needs}
 use Rattle.typed.proofs.step_part.Statement.{statement}
 use Rattle.typed.proofs.step_part.Tie as tie

@@ -1,3 +1,4 @@
+-- `takes`: a digit takes its value from 0 to 9 (`digit-range`), and may follow by the rule of text with the limit 10^15 - 1.
 use Rattle.typed.proofs.Parts.{unseen}
 use Rattle.text.specs.WholesLaws.{digit-range}
 use Rattle.text.specs.Wholes.{isDigit}
@@ -21,7 +22,10 @@ may-follow-requires c κs = search needs
 
 returns : tie.Need-returns
 unfolding takes
-returns c = let d : isDigit (c .before .before .before .args .b) ≡ true = (sym (c .before .before .is-digit .ensures) ∙ c .before .if1 .taken) in rw d (c .may-follow .ensures ∙ unseen 999999999999999 (c .before .before .before .args .m) (c .before .before .before .args .b - 48))
+returns c =
+    let at-start = c .before .before .before in
+    let d : isDigit (at-start .args .b) ≡ true = (sym (c .before .before .is-digit .ensures) ∙ c .before .if1 .taken) in
+    rw d (c .may-follow .ensures ∙ unseen 999999999999999 (at-start .args .m) (at-start .args .b - 48))
 
 returns-2 : tie.Need-returns-2
 unfolding takes

@@ -49,7 +49,8 @@ pub record Begun (s : List ℕ) (g : Gas) (t : Millikelvin) (st : Standing) : Ty
 
 -- the step at an index of a list of numbers
 abbrev pub stepNo : List ℤ → ℕ → Step
-stepNo l i = record { carbon = getD l (stepNumbers * i) (pos 0); hydrogen = getD l (stepNumbers * i + 1) (pos 0); value = getD l (stepNumbers * i + 2) (pos 0); heat = getD l (stepNumbers * i + 3) (pos 0) }
+stepNo l i =
+    record { carbon = getD l (stepNumbers * i) (pos 0); hydrogen = getD l (stepNumbers * i + 1) (pos 0); value = getD l (stepNumbers * i + 2) (pos 0); heat = getD l (stepNumbers * i + 3) (pos 0) }
 
 -- ---- what a step asks
 -- a count of atoms with more added is wrong where atoms are taken away, or leave their limit

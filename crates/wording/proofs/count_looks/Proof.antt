@@ -1,3 +1,5 @@
+-- `count_looks`: the looks before the first 0 are the used ones (`used-none`, `used-end`).
+-- Invariant: the used looks are i and those used from place i on (`used-more`). Measure: the places that are left.
 use Rattle.wording.specs.TextsLaws.{used-none, used-more, used-end}
 use Rattle.wording.specs.Texts.{used}
 use lib.ListN.{length, drop}
@@ -23,7 +25,10 @@ shared-slice-read-if1 : tie.Need-shared-slice-read-if1 Inv-loop μ-loop
 shared-slice-read-if1 c = omega arith
 
 returns : tie.Need-returns Inv-loop μ-loop
-returns c = omega (arith, c .before .before .before .loop .inv .1, ap length (used-none (c .before .before .before .before .args .looks .now) (c .before .before .before .loop .i) (omega arith) (c .if1 .taken)))
+returns c =
+    let at-loop = c .before .before .before in
+    let at-start = at-loop .before in
+    omega (arith, at-loop .loop .inv .1, ap length (used-none (at-start .args .looks .now) (at-loop .loop .i) (omega arith) (c .if1 .taken)))
 
 add-i : tie.Need-add-i Inv-loop μ-loop
 add-i c = omega arith
@@ -32,7 +37,10 @@ loop-less : tie.Need-loop-less Inv-loop μ-loop
 loop-less c = omega arith
 
 loop-again : tie.Need-loop-again Inv-loop μ-loop
-loop-again c = (omega arith, omega (arith, c .before .before .before .loop .inv .1, ap length (used-more (c .before .before .before .before .args .looks .now) (c .before .before .before .loop .i) (omega arith) (c .if1 .left))))
+loop-again c =
+    let at-loop = c .before .before .before in
+    let at-start = at-loop .before in
+    (omega arith, omega (arith, at-loop .loop .inv .1, ap length (used-more (at-start .args .looks .now) (at-loop .loop .i) (omega arith) (c .if1 .left))))
 
 returns-2 : tie.Need-returns-2 Inv-loop μ-loop
 returns-2 c = omega (arith, c .before .loop .inv .1, ap length (used-end (c .before .before .args .looks .now) (c .before .loop .i) (omega arith)))

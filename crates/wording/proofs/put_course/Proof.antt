@@ -1,3 +1,4 @@
+-- `put_course`: `ok` or `stopped` with its numbers, or the refusal, each followed by what `courseText` says next (`put-then`).
 use Rattle.text.specs.PutLaws.{put-then}
 use borrow.Author.Needs.{needs}
 use Rattle.wording.proofs.put_course.Statement.{statement}
@@ -55,13 +56,23 @@ same-length : tie.Need-same-length
 same-length c = search needs
 
 returns : tie.Need-returns
-returns c = rw (c .before .before .before .before .before .before .before .before .before .before .before .before .before .before .answer .given .1) (put-then (put-then (c .before .before .before .before .before .before .before .before .before .before .put-text .ensures) (c .before .before .before .before .before .before .put-number .ensures)) (c .before .before .put-state .ensures))
+returns c =
+    let at-put-number = c .before .before .before .before .before .before in
+    let at-put-text = at-put-number .before .before .before .before in
+    let at-answer = at-put-text .before .before .before .before in
+    rw (at-answer .answer .given .1) (put-then (put-then (at-put-text .put-text .ensures) (at-put-number .put-number .ensures)) (c .before .before .put-state .ensures))
 
 same-length-2 : tie.Need-same-length-2
 same-length-2 c = search needs
 
 returns-2 : tie.Need-returns-2
-returns-2 c = rw (c .before .before .before .before .before .before .before .before .before .before .before .before .before .before .before .before .before .before .answer2 .given .1) (put-then (put-then (put-then (c .before .before .before .before .before .before .before .before .before .before .before .before .before .before .put-text2 .ensures) (c .before .before .before .before .before .before .before .before .before .before .put-number2 .ensures)) (c .before .before .before .before .before .before .put-number3 .ensures)) (c .before .before .put-state2 .ensures))
+returns-2 c =
+    let at-put-number3 = c .before .before .before .before .before .before in
+    let at-put-number2 = at-put-number3 .before .before .before .before in
+    let at-put-text2 = at-put-number2 .before .before .before .before in
+    let at-answer2 = at-put-text2 .before .before .before .before in
+    rw (at-answer2 .answer2 .given .1)
+    (put-then (put-then (put-then (at-put-text2 .put-text2 .ensures) (at-put-number2 .put-number2 .ensures)) (at-put-number3 .put-number3 .ensures)) (c .before .before .put-state2 .ensures))
 
 same-length-3 : tie.Need-same-length-3
 same-length-3 c = search needs

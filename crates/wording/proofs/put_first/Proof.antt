@@ -1,3 +1,5 @@
+-- `put_first`: the first n looks stand in the output, a tab before each.
+-- Invariant: the first i looks are put (`fields-more`). Measure: the looks that are left of n.
 use Rattle.wording.specs.TextsLaws.{fields-more}
 use Rattle.wording.specs.Texts.{fieldsText}
 use Rattle.text.specs.PutLaws.{put-none, put-then}
@@ -39,7 +41,10 @@ loop-less : tie.Need-loop-less Inv-loop μ-loop
 loop-less c = omega arith
 
 loop-again : tie.Need-loop-again Inv-loop μ-loop
-loop-again c = (omega arith, rw (fields-more (c .before .before .before .before .before .before .before .before .before .args .looks .now) (c .before .before .before .before .before .before .loop .i) (omega arith)) (put-then (c .before .before .before .before .before .before .loop .inv .1) (c .before .before .put-number .ensures)))
+loop-again c =
+    let at-loop = c .before .before .before .before .before .before in
+    let at-start = at-loop .before .before .before in
+    (omega arith, rw (fields-more (at-start .args .looks .now) (at-loop .loop .i) (omega arith)) (put-then (at-loop .loop .inv .1) (c .before .before .put-number .ensures)))
 
 same-length : tie.Need-same-length Inv-loop μ-loop
 same-length c = c .before .loop .inv .1 .same-length

@@ -1,3 +1,4 @@
+-- `put_heat`: `ok` and the heat, or the refusal: the text of what document 01 tells (`put-then`).
 use Rattle.signed.specs.Zed.{back}
 use mir.Val.{SFits}
 use mir.Syntax.{w64}
@@ -29,8 +30,10 @@ same-length c = search needs
 
 returns : tie.Need-returns
 returns c =
-    let f0 : SFits w64 (c .before .before .before .before .before .before .before .before .before .before .before .answer .given .0 .0 .0) = search needs in
-    rw (c .before .before .before .before .before .before .before .before .before .before .before .answer .given .1) (rw (back f0) at (put-then (c .before .before .before .before .before .before .before .put-text .ensures) (c .before .before .put-signed .ensures)))
+    let at-answer = c .before .before .before .before .before .before .before .before .before .before .before in
+    let f0 : SFits w64 (at-answer .answer .given .0 .0 .0) = search needs in
+    let at-put-text = c .before .before .before .before .before .before .before in
+    rw (at-answer .answer .given .1) (rw (back f0) at (put-then (at-put-text .put-text .ensures) (c .before .before .put-signed .ensures)))
 
 same-length-2 : tie.Need-same-length-2
 same-length-2 c = search needs

@@ -1,3 +1,4 @@
+-- `put_looks`: the number of used looks, which are the first ones of the list (`used-first`), and then these looks.
 use Rattle.wording.specs.TextsLaws.{used-most, used-first}
 use native.Mathlib.Omega.{arith}
 use Rattle.text.specs.PutLaws.{put-then}
@@ -12,13 +13,23 @@ put-number-requires : tie.Need-put-number-requires
 put-number-requires c κs = search needs
 
 put-first-requires : tie.Need-put-first-requires
-put-first-requires c κs = (omega (arith, (c .before .before .before .before .before .count-looks .ensures), used-most (c .before .before .before .before .before .before .before .before .args .looks .now)), omega (arith, c .before .before .before .put-number .ensures .next-is, c .before .before .before .put-number .ensures .same-length))
+put-first-requires c κs =
+    let at-put-number = c .before .before .before in
+    let at-count-looks = at-put-number .before .before in
+    let at-start = at-count-looks .before .before .before in (
+      omega (arith, (at-count-looks .count-looks .ensures), used-most (at-start .args .looks .now)),
+      omega (arith, at-put-number .put-number .ensures .next-is, at-put-number .put-number .ensures .same-length),
+    )
 
 same-length : tie.Need-same-length
 same-length c = search needs
 
 returns : tie.Need-returns
-returns c = rw (used-first (c .before .before .before .before .before .before .before .before .before .before .before .args .looks .now)) at (rw (c .before .before .before .before .before .before .before .before .count-looks .ensures) at (put-then (c .before .before .before .before .before .before .put-number .ensures) (c .before .before .put-first .ensures)))
+returns c =
+    let at-put-number = c .before .before .before .before .before .before in
+    let at-count-looks = at-put-number .before .before in
+    let at-start = at-count-looks .before .before .before in
+    rw (used-first (at-start .args .looks .now)) at (rw (at-count-looks .count-looks .ensures) at (put-then (at-put-number .put-number .ensures) (c .before .before .put-first .ensures)))
 
 pub put-looks-spec : {M : Type 1} → statement M
 put-looks-spec =

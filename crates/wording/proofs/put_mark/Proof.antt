@@ -1,3 +1,4 @@
+-- `put_mark`: one word for a number that counts and one for a number that misses, or the refusal.
 use borrow.Author.Needs.{needs}
 use Rattle.wording.proofs.put_mark.Statement.{statement}
 use Rattle.wording.proofs.put_mark.Tie as tie

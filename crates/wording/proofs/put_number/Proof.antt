@@ -1,3 +1,4 @@
+-- `put_number`: a tab, then the number in decimal behind it (`put-then`).
 use Rattle.text.specs.PutLaws.{put-then}
 use borrow.Author.Needs.{needs}
 use Rattle.wording.proofs.put_number.Statement.{statement}

@@ -1,3 +1,4 @@
+-- `put_products`: `ok` and the five products in the paper's order, each put behind the one before (`put-then`).
 use Rattle.text.specs.PutLaws.{put-then}
 use borrow.Author.Needs.{needs}
 use Rattle.wording.proofs.put_products.Statement.{statement}
@@ -28,7 +29,17 @@ same-length : tie.Need-same-length
 same-length c = search needs
 
 returns : tie.Need-returns
-returns c = (put-then (put-then (put-then (put-then (put-then (c .before .before .before .before .before .before .before .before .before .before .before .before .before .before .before .before .before .before .before .before .before .before .put-text .ensures) (c .before .before .before .before .before .before .before .before .before .before .before .before .before .before .before .before .before .before .put-number .ensures)) (c .before .before .before .before .before .before .before .before .before .before .before .before .before .before .put-number2 .ensures)) (c .before .before .before .before .before .before .before .before .before .before .put-number3 .ensures)) (c .before .before .before .before .before .before .put-number4 .ensures)) (c .before .before .put-number5 .ensures))
+returns c =
+    let at-put-number4 = c .before .before .before .before .before .before in
+    let at-put-number3 = at-put-number4 .before .before .before .before in
+    let at-put-number2 = at-put-number3 .before .before .before .before in
+    let at-put-number = at-put-number2 .before .before .before .before in
+    let at-put-text = at-put-number .before .before .before .before in
+    (put-then
+    (put-then
+    (put-then (put-then (put-then (at-put-text .put-text .ensures) (at-put-number .put-number .ensures)) (at-put-number2 .put-number2 .ensures)) (at-put-number3 .put-number3 .ensures))
+    (at-put-number4 .put-number4 .ensures))
+    (c .before .before .put-number5 .ensures))
 
 pub put-products-spec : {M : Type 1} → statement M
 put-products-spec =

@@ -1,3 +1,4 @@
+-- `put_psi`: `ok`, the millikelvins, the rest and the used looks, each behind the one before (`put-then`), or the refusal.
 use Rattle.signed.specs.Zed.{back}
 use mir.Val.{SFits}
 use mir.Syntax.{w64}
@@ -35,8 +36,13 @@ same-length c = search needs
 
 returns : tie.Need-returns
 returns c =
-    let f : SFits w64 (c .before .before .before .before .before .before .before .before .before .before .before .before .before .before .before .before .before .before .before .answer .given .0 .0 .0) = search needs in
-    rw (c .before .before .before .before .before .before .before .before .before .before .before .before .before .before .before .before .before .before .before .answer .given .1) (rw (back f) at (put-then (put-then (put-then (c .before .before .before .before .before .before .before .before .before .before .before .before .before .before .before .put-text .ensures) (c .before .before .before .before .before .before .before .before .before .before .put-signed .ensures)) (c .before .before .before .before .before .before .put-number .ensures)) (c .before .before .put-looks .ensures)))
+    let at-answer = c .before .before .before .before .before .before .before .before .before .before .before .before .before .before .before .before .before .before .before in
+    let f : SFits w64 (at-answer .answer .given .0 .0 .0) = search needs in
+    let at-put-number = c .before .before .before .before .before .before in
+    let at-put-signed = at-put-number .before .before .before .before in
+    let at-put-text = at-put-signed .before .before .before .before .before in
+    rw (at-answer .answer .given .1)
+    (rw (back f) at (put-then (put-then (put-then (at-put-text .put-text .ensures) (at-put-signed .put-signed .ensures)) (at-put-number .put-number .ensures)) (c .before .before .put-looks .ensures)))
 
 same-length-2 : tie.Need-same-length-2
 same-length-2 c = search needs

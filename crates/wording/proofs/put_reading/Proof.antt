@@ -1,3 +1,4 @@
+-- `put_reading`: `ok` and the reading, or the refusal (`put-then`).
 use Rattle.text.specs.PutLaws.{put-then}
 use borrow.Author.Needs.{needs}
 use Rattle.wording.proofs.put_reading.Statement.{statement}
@@ -25,7 +26,10 @@ same-length : tie.Need-same-length
 same-length c = search needs
 
 returns : tie.Need-returns
-returns c = rw (c .before .before .before .before .before .before .before .before .before .before .reading .given .1) (put-then (c .before .before .before .before .before .before .put-text .ensures) (c .before .before .put-number .ensures))
+returns c =
+    let at-put-text = c .before .before .before .before .before .before in
+    let at-reading = at-put-text .before .before .before .before in
+    rw (at-reading .reading .given .1) (put-then (at-put-text .put-text .ensures) (c .before .before .put-number .ensures))
 
 same-length-2 : tie.Need-same-length-2
 same-length-2 c = search needs

@@ -1,3 +1,4 @@
+-- `put_refusal`: `refused` and the number, and the row behind it exactly where the refusal has one (`put-then`).
 use Rattle.text.specs.PutLaws.{put-then}
 use borrow.Author.Needs.{needs}
 use Rattle.wording.proofs.put_refusal.Statement.{statement}
@@ -37,13 +38,20 @@ same-length : tie.Need-same-length
 same-length c = search needs
 
 returns : tie.Need-returns
-returns c = rw (c .before .before .before .before .before .refusal .given .1) (put-then (c .before .before .before .before .before .before .before .before .before .put-text .ensures) (c .before .before .put-number .ensures))
+returns c =
+    let at-refusal = c .before .before .before .before .before in
+    let at-put-text = at-refusal .before .before .before .before in
+    rw (at-refusal .refusal .given .1) (put-then (at-put-text .put-text .ensures) (c .before .before .put-number .ensures))
 
 same-length-2 : tie.Need-same-length-2
 same-length-2 c = search needs
 
 returns-2 : tie.Need-returns-2
-returns-2 c = rw (c .before .before .before .before .before .before .before .before .before .refusal2 .given .1) (put-then (put-then (c .before .before .before .before .before .before .before .before .before .before .before .before .before .put-text .ensures) (c .before .before .before .before .before .before .put-number2 .ensures)) (c .before .before .put-number3 .ensures))
+returns-2 c =
+    let at-put-number2 = c .before .before .before .before .before .before in
+    let at-refusal2 = at-put-number2 .before .before .before in
+    let at-put-text = at-refusal2 .before .before .before .before in
+    rw (at-refusal2 .refusal2 .given .1) (put-then (put-then (at-put-text .put-text .ensures) (at-put-number2 .put-number2 .ensures)) (c .before .before .put-number3 .ensures))
 
 pub put-refusal-spec : {M : Type 1} → statement M
 put-refusal-spec =

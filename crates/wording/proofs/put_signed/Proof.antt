@@ -1,3 +1,4 @@
+-- `put_signed`: a tab, then the signed number in decimal behind it (`put-then`).
 use Rattle.signed.specs.Zed.{back}
 use Rattle.text.specs.PutLaws.{put-then}
 use borrow.Author.Needs.{needs}
@@ -14,7 +15,10 @@ same-length : tie.Need-same-length
 same-length c = search needs
 
 returns : tie.Need-returns
-returns c = put-then (c .before .before .before .before .before .before .put-byte .ensures) (rw (back (c .before .before .before .before .before .before .before .before .before .fits .z)) at (c .before .before .put-whole .ensures))
+returns c =
+    let at-put-byte = c .before .before .before .before .before .before in
+    let at-start = at-put-byte .before .before .before in
+    put-then (at-put-byte .put-byte .ensures) (rw (back (at-start .fits .z)) at (c .before .before .put-whole .ensures))
 
 pub put-signed-spec : {M : Type 1} → statement M
 put-signed-spec = tie.close (tie.spec put-byte-requires put-whole-requires same-length returns)

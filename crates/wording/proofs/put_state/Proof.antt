@@ -1,3 +1,4 @@
+-- `put_state`: the charge's three numbers and the temperature, each behind the one before (`put-then`).
 use Rattle.text.specs.PutLaws.{put-then}
 use mir.Syntax.{w64}
 use mir.Val.{SFits}
@@ -23,11 +24,17 @@ same-length c = search needs
 
 returns : tie.Need-returns
 returns c =
-    let f0 : SFits w64 ((c .before .before .before .before .before .before .before .before .before .before .before .before .before .before .before .before .before .before .before .before .before .args .charge) .air) = search needs in
-    let f1 : SFits w64 ((c .before .before .before .before .before .before .before .before .before .before .before .before .before .before .before .before .before .before .before .before .before .args .charge) .carbon) = search needs in
-    let f2 : SFits w64 ((c .before .before .before .before .before .before .before .before .before .before .before .before .before .before .before .before .before .before .before .before .before .args .charge) .hydrogen) = search needs in
-    let f3 : SFits w64 ((c .before .before .before .before .before .before .before .before .before .before .before .before .before .before .before .before .before .before .before .before .before .args .t) .0) = search needs in
-    put-then (put-then (put-then (rw (back f0) at (c .before .before .before .before .before .before .before .before .before .before .before .before .before .before .before .before .before .put-signed .ensures)) (rw (back f1) at (c .before .before .before .before .before .before .before .before .before .before .before .before .put-signed2 .ensures))) (rw (back f2) at (c .before .before .before .before .before .before .before .put-signed3 .ensures))) (rw (back f3) at (c .before .before .put-signed4 .ensures))
+    let at-start = c .before .before .before .before .before .before .before .before .before .before .before .before .before .before .before .before .before .before .before .before .before in
+    let f0 : SFits w64 ((at-start .args .charge) .air) = search needs in
+    let f1 : SFits w64 ((at-start .args .charge) .carbon) = search needs in
+    let f2 : SFits w64 ((at-start .args .charge) .hydrogen) = search needs in
+    let f3 : SFits w64 ((at-start .args .t) .0) = search needs in
+    let at-put-signed3 = c .before .before .before .before .before .before .before in
+    let at-put-signed2 = at-put-signed3 .before .before .before .before .before in
+    let at-put-signed = at-put-signed2 .before .before .before .before .before in
+    put-then
+    (put-then (put-then (rw (back f0) at (at-put-signed .put-signed .ensures)) (rw (back f1) at (at-put-signed2 .put-signed2 .ensures))) (rw (back f2) at (at-put-signed3 .put-signed3 .ensures)))
+    (rw (back f3) at (c .before .before .put-signed4 .ensures))
 
 pub put-state-spec : {M : Type 1} → statement M
 put-state-spec =

@@ -1,3 +1,4 @@
+-- `put_station`: `ok`, the mK, the content of 1 g and the mass, each behind the one before (`put-then`), or the refusal.
 use Rattle.signed.specs.Zed.{back}
 use mir.Val.{SFits}
 use mir.Syntax.{w64}
@@ -39,7 +40,15 @@ returns c =
     let f0 : SFits w64 (n .0 .0 .mk) = search needs in
     let f1 : SFits w64 (n .0 .0 .specific) = search needs in
     let f2 : SFits w64 (n .0 .0 .mass) = search needs in
-    rw (n .1) (rw (back f0, back f1, back f2) at (put-then (put-then (put-then (c .before .before .before .before .before .before .before .before .before .before .before .before .before .before .before .before .before .put-text .ensures) (c .before .before .before .before .before .before .before .before .before .before .before .before .put-signed .ensures)) (c .before .before .before .before .before .before .before .put-signed2 .ensures)) (c .before .before .put-signed3 .ensures)))
+    rw (n .1)
+    (rw (back f0, back f1, back f2)
+    at (put-then
+    (put-then
+    (put-then
+    (c .before .before .before .before .before .before .before .before .before .before .before .before .before .before .before .before .before .put-text .ensures)
+    (c .before .before .before .before .before .before .before .before .before .before .before .before .put-signed .ensures))
+    (c .before .before .before .before .before .before .before .put-signed2 .ensures))
+    (c .before .before .put-signed3 .ensures)))
 
 same-length-2 : tie.Need-same-length-2
 same-length-2 c = search needs

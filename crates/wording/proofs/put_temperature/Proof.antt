@@ -1,3 +1,4 @@
+-- `put_temperature`: `ok`, the millikelvins, the rest and the used looks, each behind the one before (`put-then`), or the refusal.
 use Rattle.signed.specs.Zed.{back}
 use mir.Val.{SFits}
 use mir.Syntax.{w64}
@@ -35,9 +36,15 @@ same-length c = search needs
 
 returns : tie.Need-returns
 returns c =
-    let f0 : SFits w64 (c .before .before .before .before .before .before .before .before .before .before .before .before .before .before .before .before .before .before .before .before .answer .given .0 .0 .0) = search needs in
-    let f1 : SFits w64 (c .before .before .before .before .before .before .before .before .before .before .before .before .before .before .before .before .before .before .before .before .answer .given .0 .1 .0 .0) = search needs in
-    rw (c .before .before .before .before .before .before .before .before .before .before .before .before .before .before .before .before .before .before .before .before .answer .given .1) (rw (back f0, back f1) at (put-then (put-then (put-then (c .before .before .before .before .before .before .before .before .before .before .before .before .before .before .before .before .put-text .ensures) (c .before .before .before .before .before .before .before .before .before .before .before .put-signed .ensures)) (c .before .before .before .before .before .before .put-signed2 .ensures)) (c .before .before .put-looks .ensures)))
+    let at-answer = c .before .before .before .before .before .before .before .before .before .before .before .before .before .before .before .before .before .before .before .before in
+    let f0 : SFits w64 (at-answer .answer .given .0 .0 .0) = search needs in
+    let f1 : SFits w64 (at-answer .answer .given .0 .1 .0 .0) = search needs in
+    let at-put-signed2 = c .before .before .before .before .before .before in
+    let at-put-signed = at-put-signed2 .before .before .before .before .before in
+    let at-put-text = at-put-signed .before .before .before .before .before in
+    rw (at-answer .answer .given .1)
+    (rw (back f0, back f1)
+    at (put-then (put-then (put-then (at-put-text .put-text .ensures) (at-put-signed .put-signed .ensures)) (at-put-signed2 .put-signed2 .ensures)) (c .before .before .put-looks .ensures)))
 
 same-length-2 : tie.Need-same-length-2
 same-length-2 c = search needs

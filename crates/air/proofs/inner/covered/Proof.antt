@@ -1,3 +1,4 @@
+-- `covered`: the test of the two ends is the paper's range, with the ends as plain numbers (`in-plain`).
 use borrow.Author.Needs.{needs}
 use mir.Syntax.{w64}
 use mir.Val.{SFits}

@@ -1,3 +1,4 @@
+-- `cp_lent`: a kelvin of the table is a number without sign, and its figure is read as printed; any other is refused, as document 01 tells (`tested`).
 use borrow.Author.Needs.{needs}
 use mathlib.Core.List.{List}
 use mathlib.Core.Path.{_≡_, refl, ap, _∙_}
@@ -24,12 +25,20 @@ to-u64-requires : tie.Need-to-u64-requires
 to-u64-requires c κs = tested-plain firstKelvin lastKelvin (c .before .before .fits .kelvin) (in-plain _ _ (c .before .before .fits .kelvin) (c .before .inside .ensures)) (c .if1 .left)
 
 figure-requires : tie.Need-figure-requires
-figure-requires c κs = let n = tested-nat firstKelvin lastKelvin (c .before .before .before .fits .kelvin) (in-plain _ _ (c .before .before .before .fits .kelvin) (c .before .before .inside .ensures)) (c .before .if1 .left) (c .to-u64 .ensures) in (n .least, n .most)
+figure-requires c κs =
+    let at-start = c .before .before .before in
+    let n = tested-nat firstKelvin lastKelvin (at-start .fits .kelvin) (in-plain _ _ (at-start .fits .kelvin) (c .before .before .inside .ensures)) (c .before .if1 .left) (c .to-u64 .ensures) in
+    (n .least, n .most)
 
 returns-2 : tie.Need-returns-2
 returns-2 c =
-    let n = tested-nat firstKelvin lastKelvin (c .before .before .before .before .fits .kelvin) (in-plain _ _ (c .before .before .before .before .fits .kelvin) (c .before .before .before .inside .ensures)) (c .before .before .if1 .left) (c .before .to-u64 .ensures) in
-    rw (tested firstKelvin lastKelvin (c .before .before .before .before .fits .kelvin) (in-plain _ _ (c .before .before .before .before .fits .kelvin) (c .before .before .before .inside .ensures)) (c .before .before .if1 .left)) (ap gives (cp-figure (c .figure .ensures .0) (c .before .before .before .before .pre) (n .number)))
+    let at-inside = c .before .before .before in
+    let at-start = at-inside .before in
+    let n =
+    tested-nat firstKelvin lastKelvin (at-start .fits .kelvin) (in-plain _ _ (at-start .fits .kelvin) (at-inside .inside .ensures)) (c .before .before .if1 .left) (c .before .to-u64 .ensures) in
+    rw
+    (tested firstKelvin lastKelvin (at-start .fits .kelvin) (in-plain _ _ (at-start .fits .kelvin) (at-inside .inside .ensures)) (c .before .before .if1 .left))
+    (ap gives (cp-figure (c .figure .ensures .0) (at-start .pre) (n .number)))
 
 pub cp-lent-spec : {M : Type 1} → statement M
 cp-lent-spec = tie.close (tie.spec inside-requires returns to-u64-requires figure-requires returns-2)

@@ -1,3 +1,4 @@
+-- `heat_lent`: a temperature that the table covers is read in the column H, which never falls (`heat-read`); any other is refused.
 use borrow.Author.Needs.{needs}
 use mathlib.Core.List.{List}
 use mathlib.Core.Path.{refl, ap, _∙_, subst⁻¹}
@@ -33,9 +34,11 @@ read-requires c κs =
 
 returns-2 : tie.Need-returns-2
 returns-2 c =
-    let s = c .before .before .before .before .before in
-    let n = tested-nat coldest hottest (fit s) (c .before .before .before .before .covered .ensures) (c .before .before .before .if1 .left) (c .before .to-u64 .ensures) in
-    rw (tested coldest hottest (fit s) (c .before .before .before .before .covered .ensures) (c .before .before .before .if1 .left)) (ap gives (heat-read _ _ _ (s .pre) (c .read .ensures) ∙ ap airHeat (n .number)))
+    let at-if1 = c .before .before .before in
+    let at-covered = at-if1 .before in
+    let s = at-covered .before in
+    let n = tested-nat coldest hottest (fit s) (at-covered .covered .ensures) (at-if1 .if1 .left) (c .before .to-u64 .ensures) in
+    rw (tested coldest hottest (fit s) (at-covered .covered .ensures) (at-if1 .if1 .left)) (ap gives (heat-read _ _ _ (s .pre) (c .read .ensures) ∙ ap airHeat (n .number)))
 
 pub heat-lent-spec : {M : Type 1} → statement M
 heat-lent-spec = tie.close (tie.spec covered-requires returns to-u64-requires read-requires returns-2)

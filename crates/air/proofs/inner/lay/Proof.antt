@@ -1,4 +1,5 @@
--- `lay` writes the looks one after the other: after i turns the first i places are theirs, and the rest are as they were. The measure is what is left of the eleven.
+-- `lay`: afterwards the looks stand one behind the other at the front of the list, and the rest of it is as it was.
+-- Invariant: after i turns the first i places are the looks', the others as they were. Measure: the looks that are left.
 use borrow.Author.Needs.{needs}
 use mathlib.Core.Path.{_≡_, refl, ap, _∙_}
 use mathlib.Core.List.{List, _++_}

@@ -1,3 +1,4 @@
+-- `psi_inverse_lent`: the list, then the two ends of the column, in document 01's order; what passes is inside the table, and the search answers.
 use borrow.Author.Needs.{needs}
 use borrow.Author.Tests.{lt-ltb, le-ltb}
 use mathlib.Core.Path.{_≡_, refl, _∙_}
@@ -37,7 +38,8 @@ room : (c : tie.Else1) → ltb (length (c .before .before .args .looks .now)) lo
 room c = le-ltb _ lookPlaces (c .if1 .left)
 
 -- the test against psi at 200 K
-at-200 : (c : tie.After-of-u64) {t : Bool} → let s = c .before .before .before .before in ltZ (toZ w64 (ofZ w64 (s .args .target))) (toZ w64 (ofZ w64 (c .of-u64 .result))) ≡ t → ltZ (s .args .target) (psiValue coldest) ≡ t
+at-200 : (c : tie.After-of-u64) {t : Bool} → let s = c .before .before .before .before in
+    ltZ (toZ w64 (ofZ w64 (s .args .target))) (toZ w64 (ofZ w64 (c .of-u64 .result))) ≡ t → ltZ (s .args .target) (psiValue coldest) ≡ t
 at-200 c e =
     let s = c .before .before .before .before in
     let f : SFits w64 (c .of-u64 .result) = search needs in
@@ -57,7 +59,8 @@ of-u64-requires-2 : tie.Need-of-u64-requires-2
 of-u64-requires-2 c κs = search needs
 
 -- the test against psi at 2,000 K
-at-2000 : (c : tie.After-of-u642) {t : Bool} → let s = c .before .before .before .before .before .before .before in ltZ (toZ w64 (ofZ w64 (c .of-u642 .result))) (toZ w64 (ofZ w64 (s .args .target))) ≡ t → ltZ (psiValue hottest) (s .args .target) ≡ t
+at-2000 : (c : tie.After-of-u642) {t : Bool} → let s = c .before .before .before .before .before .before .before in
+    ltZ (toZ w64 (ofZ w64 (c .of-u642 .result))) (toZ w64 (ofZ w64 (s .args .target))) ≡ t → ltZ (psiValue hottest) (s .args .target) ≡ t
 at-2000 c e =
     let s = c .before .before .before .before .before .before .before in
     let f : SFits w64 (c .of-u642 .result) = search needs in
@@ -65,12 +68,18 @@ at-2000 c e =
     rw q at (lt-read f (s .fits .target) e)
 
 returns-3 : tie.Need-returns-3
-returns-3 c = psi-refused _ _ (Refused (Plain 9)) (after (room (c .before .before .before .before .before .before)) (after (at-200 (c .before .before .before .before) (c .before .before .before .if2 .left)) (here (at-2000 (c .before) (c .if3 .taken))))) refl
+returns-3 c =
+    let at-if2 = c .before .before .before in
+    let after-200 = at-if2 .before in
+    let at-room = after-200 .before .before in
+    psi-refused _ _ (Refused (Plain 9)) (after (room at-room) (after (at-200 after-200 (at-if2 .if2 .left)) (here (at-2000 (c .before) (c .if3 .taken))))) refl
 
 -- past the refusals
 module _ (c : tie.Else3) where
   cleared : let s = c .before .before .before .before .before .before .before .before in Clear (psiOrder (length (s .args .looks .now)) (s .args .target))
-  cleared = clear (room (c .before .before .before .before .before .before)) (clear (at-200 (c .before .before .before .before) (c .before .before .before .if2 .left)) (clear (at-2000 (c .before) (c .if3 .left)) none))
+  cleared =
+      clear (room (c .before .before .before .before .before .before))
+      (clear (at-200 (c .before .before .before .before) (c .before .before .before .if2 .left)) (clear (at-2000 (c .before) (c .if3 .left)) none))
 
   from-200 : psiValue coldest ≤ℤ c .before .before .before .before .before .before .before .before .args .target
   from-200 = omega (zed, at-200 (c .before .before .before .before) (c .before .before .before .if2 .left))

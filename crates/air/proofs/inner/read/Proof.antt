@@ -1,3 +1,4 @@
+-- `read`: at the last temperature the last row alone; else between the kelvin below and the next, which is not below it (`between-rows`).
 use borrow.Author.Needs.{needs}
 use mathlib.Core.Path.{ap, ap₂, _∙_}
 use Prim.Native.Nat.{ℕ, _*_, _/_, _%_}

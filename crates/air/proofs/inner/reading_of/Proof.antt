@@ -1,3 +1,4 @@
+-- `reading_of`: a thousand times the figure and the part of the step to the next; both are small, so nothing overflows (`reading-small`).
 use borrow.Author.Needs.{needs}
 use mathlib.Core.Path.{refl}
 use Prim.Native.Nat.{_-_}

@@ -1,3 +1,4 @@
+-- `divide`: in the row that was kept the target lies from a to below b, so the whole mK and the rest are those of `psiFound`, and nothing overflows.
 use borrow.Author.Needs.{needs}
 use native.Mathlib.Omega.{arith}
 use mir.Val.{SFits}

@@ -62,14 +62,21 @@ figure-requires-3 c κs = let h = row (c .before .before .before .before .before
 
 divide-requires : tie.Need-divide-requires
 divide-requires c κs =
-    let s = c .before .before .before .before .before .before .before .before .before .before .before .before in
-    row-found (s .args .target) (s .pre .2) (reached (c .before .before .before .before .before .before .before .before .before)) _ _ _ (c .before .before .before .before .before .before .before .halve .ensures .row-is) (psi-figure _ (s .pre .0) (c .before .figure2 .ensures .0)) (psi-figure _ (s .pre .0) (c .figure3 .ensures .0))
+    let at-halve = c .before .before .before .before .before .before .before in
+    let at-reached = at-halve .before .before in
+    let s = at-reached .before .before .before in
+    row-found (s .args .target) (s .pre .2) (reached at-reached) _ _ _ (at-halve .halve .ensures .row-is)
+    (psi-figure _ (s .pre .0) (c .before .figure2 .ensures .0)) (psi-figure _ (s .pre .0) (c .figure3 .ensures .0))
 
 same-length-2 : tie.Need-same-length-2
 same-length-2 c = search needs
 
 returns-2 : tie.Need-returns-2
-returns-2 c = let s = c .before .before .before .before .before .before .before .before .before .before .before .before .before in searched (s .args .target) (s .pre .2) (reached (c .before .before .before .before .before .before .before .before .before .before)) (c .before .before .before .before .before .before .before .before .halve .ensures) (c .before .before .before .before .before .lay2 .ensures) (c .divide .ensures)
+returns-2 c =
+    let at-lay2 = c .before .before .before .before .before in
+    let at-halve = at-lay2 .before .before .before in
+    let at-reached = at-halve .before .before in
+    let s = at-reached .before .before .before in searched (s .args .target) (s .pre .2) (reached at-reached) (at-halve .halve .ensures) (at-lay2 .lay2 .ensures) (c .divide .ensures)
 
 pub psi-reached-spec : {M : Type 1} → statement M
 psi-reached-spec =

@@ -1,3 +1,4 @@
+-- `no_heat`: the refusal's number and row, and 0 for the heat: the struct that `flatHeat` gives a refusal.
 use borrow.Author.Needs.{needs}
 use Rattle.capi.proofs.Structs.{heat-refused}
 use Rattle.capi.proofs.telling.no_heat.Statement.{statement}

@@ -1,3 +1,4 @@
+-- `tell_burn`: products with refusal 0, or a refusal with 0 in every product: the two cases of `flatBurn`.
 use borrow.Author.Needs.{needs}
 use mathlib.Core.Path.{_∙_, sym, ap}
 use Rattle.gas.specs.declared.BurnAnswer.{BurnAnswer}
@@ -26,7 +27,10 @@ returns : tie.Need-returns
 returns c = sym (ap (λ (a : BurnAnswer). flatBurn (paperBurn a)) (c .before .answer .given .1))
 
 returns-2 : tie.Need-returns-2
-returns-2 c = burn-refused (c .before .before .before .before .answer2 .given .0 .0) (c .before .before .number-of .ensures) (c .before .row-of .ensures) (c .placed-of .ensures) ∙ sym (ap (λ (a : BurnAnswer). flatBurn (paperBurn a)) (c .before .before .before .before .answer2 .given .1))
+returns-2 c =
+    let at-answer2 = c .before .before .before .before in
+    burn-refused (at-answer2 .answer2 .given .0 .0) (c .before .before .number-of .ensures) (c .before .row-of .ensures) (c .placed-of .ensures)
+    ∙ sym (ap (λ (a : BurnAnswer). flatBurn (paperBurn a)) (at-answer2 .answer2 .given .1))
 
 pub tell-burn-spec : {M : Type 1} → statement M
 tell-burn-spec =

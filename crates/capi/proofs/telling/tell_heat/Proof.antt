@@ -1,3 +1,4 @@
+-- `tell_heat`: a heat with refusal 0, or a refusal with 0 for the heat: the two cases of `flatHeat`.
 use borrow.Author.Needs.{needs}
 use mathlib.Core.Path.{_∙_, sym, ap}
 use Rattle.gas.specs.declared.HeatAnswer.{HeatAnswer}

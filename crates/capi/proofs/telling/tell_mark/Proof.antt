@@ -1,3 +1,4 @@
+-- `tell_mark`: 1 for a number that counts, 0 for one that misses and for a refusal, which has its number: the three cases of `flatMark`.
 use borrow.Author.Needs.{needs}
 use mathlib.Core.Path.{_∙_, sym, ap}
 use Rattle.marking.specs.declared.MarkAnswer.{MarkAnswer}
@@ -32,7 +33,10 @@ returns-2 : tie.Need-returns-2
 returns-2 c = sym (ap (λ (a : MarkAnswer). flatMark (paperMark a)) (c .enum-told2 .given .1))
 
 returns-3 : tie.Need-returns-3
-returns-3 c = mark-refused (c .before .before .before .before .answer .given .0 .0) (c .before .before .number-of .ensures) (c .before .row-of .ensures) (c .placed-of .ensures) ∙ sym (ap (λ (a : MarkAnswer). flatMark (paperMark a)) (c .before .before .before .before .answer .given .1))
+returns-3 c =
+    let at-answer = c .before .before .before .before in
+    mark-refused (at-answer .answer .given .0 .0) (c .before .before .number-of .ensures) (c .before .row-of .ensures) (c .placed-of .ensures)
+    ∙ sym (ap (λ (a : MarkAnswer). flatMark (paperMark a)) (at-answer .answer .given .1))
 
 pub tell-mark-spec : {M : Type 1} → statement M
 tell-mark-spec =

@@ -1,3 +1,4 @@
+-- `tell_psi`: the mK and the rest with refusal 0, or a refusal with 0 in both: the two cases of `flatPsi`.
 use borrow.Author.Needs.{needs}
 use mathlib.Core.Path.{_∙_, sym, ap}
 use Rattle.air.specs.declared.PsiAnswer.{PsiAnswer}
@@ -26,7 +27,10 @@ returns : tie.Need-returns
 returns c = psi-found (search needs) ∙ sym (ap (λ (a : PsiAnswer). flatPsi (paperPsi a)) (c .before .before .answer .given .1))
 
 returns-2 : tie.Need-returns-2
-returns-2 c = psi-refused (c .before .before .before .before .answer2 .given .0 .0) (c .before .before .number-of .ensures) (c .before .row-of .ensures) (c .placed-of .ensures) ∙ sym (ap (λ (a : PsiAnswer). flatPsi (paperPsi a)) (c .before .before .before .before .answer2 .given .1))
+returns-2 c =
+    let at-answer2 = c .before .before .before .before in
+    psi-refused (at-answer2 .answer2 .given .0 .0) (c .before .before .number-of .ensures) (c .before .row-of .ensures) (c .placed-of .ensures)
+    ∙ sym (ap (λ (a : PsiAnswer). flatPsi (paperPsi a)) (at-answer2 .answer2 .given .1))
 
 pub tell-psi-spec : {M : Type 1} → statement M
 tell-psi-spec =

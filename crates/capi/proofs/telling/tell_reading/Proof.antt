@@ -1,3 +1,4 @@
+-- `tell_reading`: a reading with refusal 0, or a refusal with 0 for it: the two cases of `flatReading`.
 use borrow.Author.Needs.{needs}
 use mathlib.Core.Path.{_∙_, sym, ap}
 use Rattle.air.specs.declared.Reading.{Reading}
@@ -26,7 +27,10 @@ returns : tie.Need-returns
 returns c = sym (ap (λ (a : Reading). flatReading (paperReading a)) (c .before .answer .given .1))
 
 returns-2 : tie.Need-returns-2
-returns-2 c = reading-refused (c .before .before .before .before .answer2 .given .0 .0) (c .before .before .number-of .ensures) (c .before .row-of .ensures) (c .placed-of .ensures) ∙ sym (ap (λ (a : Reading). flatReading (paperReading a)) (c .before .before .before .before .answer2 .given .1))
+returns-2 c =
+    let at-answer2 = c .before .before .before .before in
+    reading-refused (at-answer2 .answer2 .given .0 .0) (c .before .before .number-of .ensures) (c .before .row-of .ensures) (c .placed-of .ensures)
+    ∙ sym (ap (λ (a : Reading). flatReading (paperReading a)) (at-answer2 .answer2 .given .1))
 
 pub tell-reading-spec : {M : Type 1} → statement M
 tell-reading-spec =

@@ -1,3 +1,4 @@
+-- `tell_sheet`: refusal 0 for a good sheet, else the refusal with its row: the two cases of `flatSheet`.
 use borrow.Author.Needs.{needs}
 use mathlib.Core.Path.{_∙_, sym, ap}
 use Rattle.sheet.specs.declared.SheetAnswer.{SheetAnswer}
@@ -26,7 +27,10 @@ returns : tie.Need-returns
 returns c = sym (ap (λ (a : SheetAnswer). flatSheet (paperSheet a)) (c .enum-told .given .1))
 
 returns-2 : tie.Need-returns-2
-returns-2 c = sheet-refused (c .before .before .before .before .answer .given .0 .0) (c .before .before .number-of .ensures) (c .before .row-of .ensures) (c .placed-of .ensures) ∙ sym (ap (λ (a : SheetAnswer). flatSheet (paperSheet a)) (c .before .before .before .before .answer .given .1))
+returns-2 c =
+    let at-answer = c .before .before .before .before in
+    sheet-refused (at-answer .answer .given .0 .0) (c .before .before .number-of .ensures) (c .before .row-of .ensures) (c .placed-of .ensures)
+    ∙ sym (ap (λ (a : SheetAnswer). flatSheet (paperSheet a)) (at-answer .answer .given .1))
 
 pub tell-sheet-spec : {M : Type 1} → statement M
 tell-sheet-spec =

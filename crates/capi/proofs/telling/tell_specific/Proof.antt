@@ -1,3 +1,4 @@
+-- `tell_specific`: a content of 1 g with refusal 0, or a refusal with 0 for it: the two cases of `flatHeat`.
 use borrow.Author.Needs.{needs}
 use mathlib.Core.Path.{_∙_, sym, ap}
 use Rattle.gas.specs.declared.SpecificAnswer.{SpecificAnswer}

@@ -1,3 +1,4 @@
+-- `tell_station`: the three figures with refusal 0, or a refusal with 0 in each: the two cases of `flatStation`.
 use borrow.Author.Needs.{needs}
 use mathlib.Core.Path.{_∙_, sym, ap}
 use Rattle.marking.specs.declared.StationAnswer.{StationAnswer}
@@ -26,7 +27,10 @@ returns : tie.Need-returns
 returns c = sym (ap (λ (a : StationAnswer). flatStation (paperStation a)) (c .before .answer .given .1))
 
 returns-2 : tie.Need-returns-2
-returns-2 c = station-refused (c .before .before .before .before .answer2 .given .0 .0) (c .before .before .number-of .ensures) (c .before .row-of .ensures) (c .placed-of .ensures) ∙ sym (ap (λ (a : StationAnswer). flatStation (paperStation a)) (c .before .before .before .before .answer2 .given .1))
+returns-2 c =
+    let at-answer2 = c .before .before .before .before in
+    station-refused (at-answer2 .answer2 .given .0 .0) (c .before .before .number-of .ensures) (c .before .row-of .ensures) (c .placed-of .ensures)
+    ∙ sym (ap (λ (a : StationAnswer). flatStation (paperStation a)) (at-answer2 .answer2 .given .1))
 
 pub tell-station-spec : {M : Type 1} → statement M
 tell-station-spec =

@@ -1,3 +1,4 @@
+-- `tell_temperature`: the mK and the rest with refusal 0, or a refusal with 0 in both: the two cases of `flatTemperature`.
 use borrow.Author.Needs.{needs}
 use mathlib.Core.Path.{_∙_, sym, ap}
 use Rattle.gas.specs.declared.TemperatureAnswer.{TemperatureAnswer}
@@ -26,7 +27,10 @@ returns : tie.Need-returns
 returns c = temperature-found (search needs) (search needs) ∙ sym (ap (λ (a : TemperatureAnswer). flatTemperature (paperTemperature a)) (c .before .before .before .answer .given .1))
 
 returns-2 : tie.Need-returns-2
-returns-2 c = temperature-refused (c .before .before .before .before .answer2 .given .0 .0) (c .before .before .number-of .ensures) (c .before .row-of .ensures) (c .placed-of .ensures) ∙ sym (ap (λ (a : TemperatureAnswer). flatTemperature (paperTemperature a)) (c .before .before .before .before .answer2 .given .1))
+returns-2 c =
+    let at-answer2 = c .before .before .before .before in
+    temperature-refused (at-answer2 .answer2 .given .0 .0) (c .before .before .number-of .ensures) (c .before .row-of .ensures) (c .placed-of .ensures)
+    ∙ sym (ap (λ (a : TemperatureAnswer). flatTemperature (paperTemperature a)) (at-answer2 .answer2 .given .1))
 
 pub tell-temperature-spec : {M : Type 1} → statement M
 tell-temperature-spec =

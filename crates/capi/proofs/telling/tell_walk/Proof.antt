@@ -1,3 +1,4 @@
+-- `tell_walk`: a walk done, stopped at a step, or refused at its start with 0 in every other field: the three cases of `flatWalk`.
 use borrow.Author.Needs.{needs}
 use mathlib.Core.Path.{_∙_, sym, ap}
 use Rattle.walk.specs.declared.WalkAnswer.{WalkAnswer}
@@ -38,7 +39,10 @@ returns-2 : tie.Need-returns-2
 returns-2 c = c .tell-begun2 .ensures ∙ sym (ap (λ (a : WalkAnswer). flatWalk (paperWalk a)) (c .before .before .answer2 .given .1))
 
 returns-3 : tie.Need-returns-3
-returns-3 c = walk-refused (c .before .before .before .before .answer3 .given .0 .0) (c .before .before .number-of .ensures) (c .before .row-of .ensures) (c .placed-of .ensures) ∙ sym (ap (λ (a : WalkAnswer). flatWalk (paperWalk a)) (c .before .before .before .before .answer3 .given .1))
+returns-3 c =
+    let at-answer3 = c .before .before .before .before in
+    walk-refused (at-answer3 .answer3 .given .0 .0) (c .before .before .number-of .ensures) (c .before .row-of .ensures) (c .placed-of .ensures)
+    ∙ sym (ap (λ (a : WalkAnswer). flatWalk (paperWalk a)) (at-answer3 .answer3 .given .1))
 
 pub tell-walk-spec : {M : Type 1} → statement M
 tell-walk-spec =

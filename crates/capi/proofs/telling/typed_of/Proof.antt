@@ -1,3 +1,4 @@
+-- `typed_of`: kind 0 is kelvins, kind 1 a content, every other a blank: `typedOf`, one case each.
 use borrow.Author.Tests.{ne-eqb}
 use mathlib.Core.Path.{refl}
 use Rattle.capi.proofs.telling.typed_of.Statement.{statement}

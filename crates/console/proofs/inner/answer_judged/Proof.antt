@@ -1,3 +1,4 @@
+-- `answer_judged`: what is said to the line, then its line feed (`put-then`).
 use Rattle.console.specs.Answers.{answerOf}
 use Rattle.text.specs.PutLaws.{put-then}
 use borrow.Author.Needs.{needs}

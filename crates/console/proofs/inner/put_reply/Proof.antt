@@ -1,3 +1,4 @@
+-- `put_reply`: a carriage return in the line is an error (`line-returned`); else its first field names the request and the fields behind it are its numbers (`line-is`).
 use Rattle.console.specs.AnswersLaws.{line-is, line-returned}
 use Rattle.fields.specs.FieldsLaws.{span-from}
 use native.Mathlib.Omega.{arith}
@@ -19,7 +20,13 @@ same-length : tie.Need-same-length
 same-length c = search needs
 
 returns : tie.Need-returns
-returns c = rw (line-returned (c .before .before .before .before .before .before .before .before .before .before .args .verdict) (c .before .before .before .before .before .before .before .before .before .before .args .sheet .now) (c .before .before .before .before .before .before .before .before .before .before .args .line .now) (sym (c .before .before .before .before .before .before .holds-return .ensures) ∙ c .before .before .before .before .before .if1 .taken)) (c .before .before .put-text .ensures)
+returns c =
+    let at-if1 = c .before .before .before .before .before in
+    let at-holds-return = at-if1 .before in
+    let at-start = at-holds-return .before .before .before .before in
+    rw
+    (line-returned (at-start .args .verdict) (at-start .args .sheet .now) (at-start .args .line .now) (sym (at-holds-return .holds-return .ensures) ∙ at-if1 .if1 .taken))
+    (c .before .before .put-text .ensures)
 
 field-end-requires : tie.Need-field-end-requires
 field-end-requires c κs = search needs
@@ -46,7 +53,18 @@ same-length-2 : tie.Need-same-length-2
 same-length-2 c = search needs
 
 returns-2 : tie.Need-returns-2
-returns-2 c = rw (line-is (c .before .before .before .before .before .before .before .before .before .before .before .before .args .verdict) (c .before .before .before .before .before .before .before .before .before .before .before .before .args .sheet .now) (c .before .before .before .before .before .before .before .before .before .before .before .before .args .line .now) (c .before .before .before .before .before .before .field-end .result) (sym (c .before .before .before .before .before .before .before .before .holds-return .ensures) ∙ c .before .before .before .before .before .before .before .if1 .left) (c .before .before .before .before .before .before .field-end .ensures), ← c .before .before .before .before .request-of .ensures) (c .before .before .reply .ensures)
+returns-2 c =
+    let at-request-of = c .before .before .before .before in
+    let at-field-end = at-request-of .before .before in
+    let at-if1 = at-field-end .before in
+    let at-holds-return = at-if1 .before in
+    let at-start = at-holds-return .before .before .before .before in
+    rw (
+      line-is (at-start .args .verdict) (at-start .args .sheet .now) (at-start .args .line .now) (at-field-end .field-end .result)
+          (sym (at-holds-return .holds-return .ensures) ∙ at-if1 .if1 .left) (at-field-end .field-end .ensures),
+      ← at-request-of .request-of .ensures,
+    )
+    (c .before .before .reply .ensures)
 
 pub put-reply-spec : {M : Type 1} → statement M
 put-reply-spec =

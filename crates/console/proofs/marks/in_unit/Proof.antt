@@ -1,3 +1,4 @@
+-- `in_unit`: the same number as kelvins or as a content, by the word that was typed.
 use mathlib.Core.Path.{refl}
 use Rattle.console.proofs.marks.in_unit.Statement.{statement}
 use Rattle.console.proofs.marks.in_unit.Tie as tie

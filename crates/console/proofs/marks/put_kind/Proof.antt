@@ -1,3 +1,4 @@
+-- `put_kind`: each kind of answer has its own fields, and an unknown one is a misfit: the four cases of `kindText`.
 use borrow.Author.Needs.{needs}
 use Rattle.console.proofs.marks.put_kind.Statement.{statement}
 use Rattle.console.proofs.marks.put_kind.Tie as tie

@@ -1,3 +1,4 @@
+-- `put_marked`: a key and a window are two numbers: then marking tells, else the request takes other fields.
 use Rattle.signed.specs.Zed.{back}
 use mir.Val.{SFits}
 use mir.Syntax.{w64}
@@ -28,9 +29,12 @@ same-length c = search needs
 
 returns : tie.Need-returns
 returns c =
-    let f0 : SFits w64 (c .before .before .before .before .before .before .key .given .0 .0) = search needs in
-    let f1 : SFits w64 (c .before .before .before .before .before .before .key .given .0 .1 .0) = search needs in
-    rw (← c .before .before .before .before .before .before .before .before .read-two .ensures, c .before .before .before .before .before .before .key .given .1) (rw (back f0, back f1) at (rw (c .before .before .before .before .mark .ensures) at (c .before .before .put-mark .ensures)))
+    let at-key = c .before .before .before .before .before .before in
+    let f0 : SFits w64 (at-key .key .given .0 .0) = search needs in
+    let f1 : SFits w64 (at-key .key .given .0 .1 .0) = search needs in
+    let at-mark = c .before .before .before .before in
+    let at-read-two = at-key .before .before in
+    rw (← at-read-two .read-two .ensures, at-key .key .given .1) (rw (back f0, back f1) at (rw (at-mark .mark .ensures) at (c .before .before .put-mark .ensures)))
 
 same-length-2 : tie.Need-same-length-2
 same-length-2 c = search needs

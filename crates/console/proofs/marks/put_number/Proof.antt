@@ -1,3 +1,4 @@
+-- `put_number`: a typed number is marked in its unit, and what is none is told as that: `numberText`.
 use borrow.Author.Needs.{needs}
 use Rattle.console.proofs.marks.put_number.Statement.{statement}
 use Rattle.console.proofs.marks.put_number.Tie as tie

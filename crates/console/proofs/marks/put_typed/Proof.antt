@@ -1,3 +1,4 @@
+-- `put_typed`: the field at hand ends at its tab, so it is the first of the fields (`fields-at`); past the line's end there is none (`fields-none`).
 use Rattle.fields.specs.FieldsLaws.{span-from, fields-at, fields-none}
 use native.Mathlib.Omega.{arith}
 use borrow.Author.Needs.{needs}
@@ -11,7 +12,10 @@ same-length : tie.Need-same-length
 same-length c = search needs
 
 returns : tie.Need-returns
-returns c = rw (fields-none (c .before .before .before .before .before .before .before .args .line .now) (c .before .before .before .before .before .before .before .args .from) (c .before .before .before .before .if1 .taken)) (c .before .before .put-misfit .ensures)
+returns c =
+    let at-if1 = c .before .before .before .before in
+    let at-start = at-if1 .before .before .before in
+    rw (fields-none (at-start .args .line .now) (at-start .args .from) (at-if1 .if1 .taken)) (c .before .before .put-misfit .ensures)
 
 field-end-requires : tie.Need-field-end-requires
 field-end-requires c κs = search needs
@@ -23,13 +27,17 @@ part-read-number-start : tie.Need-part-read-number-start
 part-read-number-start c = search needs
 
 part-read-number-end : tie.Need-part-read-number-end
-part-read-number-end c = omega (arith, c .field-end .ensures, span-from (c .before .before .before .before .args .line .now) (c .before .before .before .before .args .from) (omega arith))
+part-read-number-end c =
+    let at-start = c .before .before .before .before in
+    omega (arith, c .field-end .ensures, span-from (at-start .args .line .now) (at-start .args .from) (omega arith))
 
 read-number-requires : tie.Need-read-number-requires
 read-number-requires c κs = search needs
 
 add-put-number : tie.Need-add-put-number
-add-put-number c = omega (arith, c .before .before .field-end .ensures, span-from (c .before .before .before .before .before .before .args .line .now) (c .before .before .before .before .before .before .args .from) (omega arith))
+add-put-number c =
+    let at-start = c .before .before .before .before .before .before in
+    omega (arith, c .before .before .field-end .ensures, span-from (at-start .args .line .now) (at-start .args .from) (omega arith))
 
 put-number-requires : tie.Need-put-number-requires
 put-number-requires c κs = search needs
@@ -38,7 +46,14 @@ same-length-2 : tie.Need-same-length-2
 same-length-2 c = search needs
 
 returns-2 : tie.Need-returns-2
-returns-2 c = rw (fields-at (c .before .before .before .before .before .before .before .before .before .before .args .line .now) (c .before .before .before .before .before .before .before .before .before .before .args .from) (c .before .before .before .before .before .before .field-end .result) (c .before .before .before .before .before .before .before .if1 .left) (c .before .before .before .before .before .before .field-end .ensures), ← c .before .before .before .before .read-number .ensures) (c .before .before .put-number .ensures)
+returns-2 c =
+    let at-read-number = c .before .before .before .before in
+    let at-field-end = at-read-number .before .before in
+    let at-if1 = at-field-end .before in
+    let at-start = at-if1 .before .before .before in
+    rw
+    (fields-at (at-start .args .line .now) (at-start .args .from) (at-field-end .field-end .result) (at-if1 .if1 .left) (at-field-end .field-end .ensures), ← at-read-number .read-number .ensures)
+    (c .before .before .put-number .ensures)
 
 pub put-typed-spec : {M : Type 1} → statement M
 put-typed-spec =

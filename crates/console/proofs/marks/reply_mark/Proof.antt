@@ -1,3 +1,4 @@
+-- `reply_mark`: the field at hand names the kind, and the fields behind it are the kind's (`fields-at`); with no field it is a misfit (`fields-none`).
 use Rattle.fields.specs.FieldsLaws.{span-from, fields-at, fields-none}
 use native.Mathlib.Omega.{arith}
 use borrow.Author.Needs.{needs}
@@ -11,7 +12,10 @@ same-length : tie.Need-same-length
 same-length c = search needs
 
 returns : tie.Need-returns
-returns c = rw (fields-none (c .before .before .before .before .before .before .before .args .line .now) (c .before .before .before .before .before .before .before .args .from) (c .before .before .before .before .if1 .taken)) (c .before .before .put-misfit .ensures)
+returns c =
+    let at-if1 = c .before .before .before .before in
+    let at-start = at-if1 .before .before .before in
+    rw (fields-none (at-start .args .line .now) (at-start .args .from) (at-if1 .if1 .taken)) (c .before .before .put-misfit .ensures)
 
 field-end-requires : tie.Need-field-end-requires
 field-end-requires c κs = search needs
@@ -23,13 +27,17 @@ part-kind-of-start : tie.Need-part-kind-of-start
 part-kind-of-start c = search needs
 
 part-kind-of-end : tie.Need-part-kind-of-end
-part-kind-of-end c = omega (arith, c .field-end .ensures, span-from (c .before .before .before .before .args .line .now) (c .before .before .before .before .args .from) (omega arith))
+part-kind-of-end c =
+    let at-start = c .before .before .before .before in
+    omega (arith, c .field-end .ensures, span-from (at-start .args .line .now) (at-start .args .from) (omega arith))
 
 kind-of-requires : tie.Need-kind-of-requires
 kind-of-requires c κs = search needs
 
 add-put-kind : tie.Need-add-put-kind
-add-put-kind c = omega (arith, c .before .before .field-end .ensures, span-from (c .before .before .before .before .before .before .args .line .now) (c .before .before .before .before .before .before .args .from) (omega arith))
+add-put-kind c =
+    let at-start = c .before .before .before .before .before .before in
+    omega (arith, c .before .before .field-end .ensures, span-from (at-start .args .line .now) (at-start .args .from) (omega arith))
 
 put-kind-requires : tie.Need-put-kind-requires
 put-kind-requires c κs = search needs
@@ -38,7 +46,14 @@ same-length-2 : tie.Need-same-length-2
 same-length-2 c = search needs
 
 returns-2 : tie.Need-returns-2
-returns-2 c = rw (fields-at (c .before .before .before .before .before .before .before .before .before .before .args .line .now) (c .before .before .before .before .before .before .before .before .before .before .args .from) (c .before .before .before .before .before .before .field-end .result) (c .before .before .before .before .before .before .before .if1 .left) (c .before .before .before .before .before .before .field-end .ensures), ← c .before .before .before .before .kind-of .ensures) (c .before .before .put-kind .ensures)
+returns-2 c =
+    let at-kind-of = c .before .before .before .before in
+    let at-field-end = at-kind-of .before .before in
+    let at-if1 = at-field-end .before in
+    let at-start = at-if1 .before .before .before in
+    rw
+    (fields-at (at-start .args .line .now) (at-start .args .from) (at-field-end .field-end .result) (at-if1 .if1 .left) (at-field-end .field-end .ensures), ← at-kind-of .kind-of .ensures)
+    (c .before .before .put-kind .ensures)
 
 pub reply-mark-spec : {M : Type 1} → statement M
 reply-mark-spec =

@@ -1,3 +1,4 @@
+-- `ask_psi`: the search writes its looks into places that were all 0, so the used ones are its own (`psi-shown`).
 use Rattle.wording.specs.TextsLaws.{psi-shown}
 use Rattle.signed.specs.Zed.{back}
 use borrow.Author.Needs.{needs}
@@ -20,7 +21,10 @@ same-length : tie.Need-same-length
 same-length c = search needs
 
 returns : tie.Need-returns
-returns c = rw (back (c .before .before .before .before .before .before .before .before .before .fits .target)) at (rw (psi-shown (c .before .before .before .before .before .before .psi-inverse-lent .ensures)) at (c .before .before .put-psi .ensures))
+returns c =
+    let at-psi-inverse-lent = c .before .before .before .before .before .before in
+    let at-start = at-psi-inverse-lent .before .before .before in
+    rw (back (at-start .fits .target)) at (rw (psi-shown (at-psi-inverse-lent .psi-inverse-lent .ensures)) at (c .before .before .put-psi .ensures))
 
 pub ask-psi-spec : {M : Type 1} → statement M
 ask-psi-spec =

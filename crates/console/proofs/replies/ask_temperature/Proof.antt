@@ -1,3 +1,4 @@
+-- `ask_temperature`: the search writes its looks into places that were all 0, so the used ones are its own (`temperature-shown`).
 use Rattle.wording.specs.TextsLaws.{temperature-shown}
 use Rattle.signed.specs.Zed.{back}
 use borrow.Author.Needs.{needs}
@@ -20,7 +21,11 @@ same-length : tie.Need-same-length
 same-length c = search needs
 
 returns : tie.Need-returns
-returns c = rw (back (c .before .before .before .before .before .before .before .before .before .before .fits .target)) at (rw (temperature-shown (c .before .before .before .before .before .before .before .before .before .before .args .charge) _ (c .before .before .before .before .before .before .before .before .before .before .args .sheet .now) (c .before .before .before .before .before .before .temperature-judged .ensures)) at (c .before .before .put-temperature .ensures))
+returns c =
+    let at-temperature-judged = c .before .before .before .before .before .before in
+    let at-start = at-temperature-judged .before .before .before .before in
+    rw (back (at-start .fits .target))
+    at (rw (temperature-shown (at-start .args .charge) _ (at-start .args .sheet .now) (at-temperature-judged .temperature-judged .ensures)) at (c .before .before .put-temperature .ensures))
 
 pub ask-temperature-spec : {M : Type 1} → statement M
 ask-temperature-spec =

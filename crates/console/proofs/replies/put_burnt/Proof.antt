@@ -1,3 +1,4 @@
+-- `put_burnt`: the products or the refusal, as document 01 tells them.
 use borrow.Author.Needs.{needs}
 use Rattle.console.proofs.replies.put_burnt.Statement.{statement}
 use Rattle.console.proofs.replies.put_burnt.Tie as tie

@@ -1,3 +1,4 @@
+-- `reply`: each request with as many fields as it takes; a gas is asked only over a sheet that was found good (`ready`).
 use Rattle.console.specs.VerdictLaws.{ready}
 use borrow.Author.Needs.{needs}
 use Rattle.console.proofs.replies.reply.Statement.{statement}
@@ -31,7 +32,9 @@ gas-ask-of-requires : tie.Need-gas-ask-of-requires
 gas-ask-of-requires c κs = search needs
 
 reply-gas-requires : tie.Need-reply-gas-requires
-reply-gas-requires c κs = let s = c .before .before .before .before .before .before .before .before .before in (rw (c .before .gas-ask-of .ensures) (ready (s .args .sheet .now) (c .before .before .read-four .result) (s .args .verdict) (s .pre .0)), s .pre .1 .heats-are)
+reply-gas-requires c κs =
+    let s = c .before .before .before .before .before .before .before .before .before in
+    (rw (c .before .gas-ask-of .ensures) (ready (s .args .sheet .now) (c .before .before .read-four .result) (s .args .verdict) (s .pre .0)), s .pre .1 .heats-are)
 
 enum-told-2 : tie.Need-enum-told-2
 enum-told-2 c = search needs
@@ -67,7 +70,11 @@ same-length-3 : tie.Need-same-length-3
 same-length-3 c = search needs
 
 returns-3 : tie.Need-returns-3
-returns-3 c = rw (c .before .before .before .before .before .before .before .request2 .given .1) (rw (c .before .before .before .before .gas-ask-of .ensures, c .before .before .before .before .before .read-four .ensures) at (c .before .before .reply-gas .ensures))
+returns-3 c =
+    let at-gas-ask-of = c .before .before .before .before in
+    let at-read-four = at-gas-ask-of .before in
+    let at-request2 = at-read-four .before .before in
+    rw (at-request2 .request2 .given .1) (rw (at-gas-ask-of .gas-ask-of .ensures, at-read-four .read-four .ensures) at (c .before .before .reply-gas .ensures))
 
 same-length-4 : tie.Need-same-length-4
 same-length-4 c = search needs

@@ -1,3 +1,4 @@
+-- `reply_air`: one number is read and told, any other fields are a misfit.
 use Rattle.signed.specs.Zed.{back}
 use mir.Val.{SFits}
 use mir.Syntax.{w64}
@@ -22,8 +23,9 @@ same-length c = search needs
 
 returns : tie.Need-returns
 returns c =
-    let f : SFits w64 (c .before .before .before .before .before .number .given .0 .0) = search needs in
-    rw (c .before .before .before .before .before .number .given .1) (rw (back f) at (c .before .before .tell-air .ensures))
+    let at-number = c .before .before .before .before .before in
+    let f : SFits w64 (at-number .number .given .0 .0) = search needs in
+    rw (at-number .number .given .1) (rw (back f) at (c .before .before .tell-air .ensures))
 
 same-length-2 : tie.Need-same-length-2
 same-length-2 c = search needs

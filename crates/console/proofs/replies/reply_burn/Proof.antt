@@ -1,3 +1,4 @@
+-- `reply_burn`: three numbers are a charge and burn, any other fields are a misfit.
 use Rattle.signed.specs.Zed.{back}
 use mir.Val.{SFits}
 use mir.Syntax.{w64}
@@ -25,10 +26,12 @@ same-length c = search needs
 
 returns : tie.Need-returns
 returns c =
-    let f0 : SFits w64 (c .before .before .before .before .before .before .numbers .given .0 .0) = search needs in
-    let f1 : SFits w64 (c .before .before .before .before .before .before .numbers .given .0 .1 .0) = search needs in
-    let f2 : SFits w64 (c .before .before .before .before .before .before .numbers .given .0 .1 .1 .0) = search needs in
-    rw (c .before .before .before .before .before .before .numbers .given .1) (rw (back f0, back f1, back f2) at (rw (c .before .before .before .before .burn .ensures) at (c .before .before .put-burnt .ensures)))
+    let at-numbers = c .before .before .before .before .before .before in
+    let f0 : SFits w64 (at-numbers .numbers .given .0 .0) = search needs in
+    let f1 : SFits w64 (at-numbers .numbers .given .0 .1 .0) = search needs in
+    let f2 : SFits w64 (at-numbers .numbers .given .0 .1 .1 .0) = search needs in
+    let at-burn = c .before .before .before .before in
+    rw (at-numbers .numbers .given .1) (rw (back f0, back f1, back f2) at (rw (at-burn .burn .ensures) at (c .before .before .put-burnt .ensures)))
 
 same-length-2 : tie.Need-same-length-2
 same-length-2 c = search needs

@@ -1,3 +1,4 @@
+-- `reply_gas`: what is asked over a good sheet is told, a refused sheet is told as its refusal, other fields are a misfit.
 use Rattle.console.specs.Answers.{Ready}
 use Rattle.console.specs.declared.requests.GasAsk.{GasAsk}
 use mathlib.Core.Path.{subst}
@@ -12,7 +13,8 @@ enum-known-asked : tie.Need-enum-known-asked
 enum-known-asked c = search needs
 
 tell-gas-requires : tie.Need-tell-gas-requires
-tell-gas-requires c κs = let s = c .before .before .before .before .before .before in (subst (λ (a : GasAsk). Ready a (s .args .sheet .now)) (c .before .before .asked .given .1) (s .pre .0), s .pre .1)
+tell-gas-requires c κs =
+    let s = c .before .before .before .before .before .before in (subst (λ (a : GasAsk). Ready a (s .args .sheet .now)) (c .before .before .asked .given .1) (s .pre .0), s .pre .1)
 
 enum-known-asked-2 : tie.Need-enum-known-asked-2
 enum-known-asked-2 c = search needs
@@ -31,8 +33,9 @@ same-length c = search needs
 
 returns : tie.Need-returns
 returns c =
-    let f : SFits w64 (c .before .before .before .before .before .asked .given .0 .1 .0) = search needs in
-    rw (c .before .before .before .before .before .asked .given .1) (rw (back f) at (c .before .before .tell-gas .ensures))
+    let at-asked = c .before .before .before .before .before in
+    let f : SFits w64 (at-asked .asked .given .0 .1 .0) = search needs in
+    rw (at-asked .asked .given .1) (rw (back f) at (c .before .before .tell-gas .ensures))
 
 same-length-2 : tie.Need-same-length-2
 same-length-2 c = search needs

@@ -1,3 +1,4 @@
+-- `tell_air`: each reading of air by its own function: the four cases of `airText`.
 use Rattle.signed.specs.Zed.{back}
 use borrow.Author.Needs.{needs}
 use Rattle.console.proofs.replies.tell_air.Statement.{statement}
@@ -40,25 +41,40 @@ same-length : tie.Need-same-length
 same-length c = search needs
 
 returns : tie.Need-returns
-returns c = rw (c .before .before .before .before .before .enum-told .given .1) (rw (back (c .before .before .before .before .before .before .before .before .fits .number)) at (rw (c .before .before .before .before .heat-lent .ensures) at (c .before .before .put-reading .ensures)))
+returns c =
+    let at-heat-lent = c .before .before .before .before in
+    let at-told = at-heat-lent .before in
+    let at-start = at-told .before .before .before in
+    rw (at-told .enum-told .given .1) (rw (back (at-start .fits .number)) at (rw (at-heat-lent .heat-lent .ensures) at (c .before .before .put-reading .ensures)))
 
 same-length-2 : tie.Need-same-length-2
 same-length-2 c = search needs
 
 returns-2 : tie.Need-returns-2
-returns-2 c = rw (c .before .before .before .before .before .enum-told2 .given .1) (rw (back (c .before .before .before .before .before .before .before .before .fits .number)) at (rw (c .before .before .before .before .psi-lent .ensures) at (c .before .before .put-reading2 .ensures)))
+returns-2 c =
+    let at-psi-lent = c .before .before .before .before in
+    let at-told2 = at-psi-lent .before in
+    let at-start = at-told2 .before .before .before in
+    rw (at-told2 .enum-told2 .given .1) (rw (back (at-start .fits .number)) at (rw (at-psi-lent .psi-lent .ensures) at (c .before .before .put-reading2 .ensures)))
 
 same-length-3 : tie.Need-same-length-3
 same-length-3 c = search needs
 
 returns-3 : tie.Need-returns-3
-returns-3 c = rw (c .before .before .before .before .before .enum-told3 .given .1) (rw (back (c .before .before .before .before .before .before .before .before .fits .number)) at (rw (c .before .before .before .before .cp-lent .ensures) at (c .before .before .put-reading3 .ensures)))
+returns-3 c =
+    let at-cp-lent = c .before .before .before .before in
+    let at-told3 = at-cp-lent .before in
+    let at-start = at-told3 .before .before .before in
+    rw (at-told3 .enum-told3 .given .1) (rw (back (at-start .fits .number)) at (rw (at-cp-lent .cp-lent .ensures) at (c .before .before .put-reading3 .ensures)))
 
 same-length-4 : tie.Need-same-length-4
 same-length-4 c = search needs
 
 returns-4 : tie.Need-returns-4
-returns-4 c = rw (c .before .before .before .before .enum-told4 .given .1) (rw (back (c .before .before .before .before .before .before .before .fits .number)) at (c .before .before .ask-psi .ensures))
+returns-4 c =
+    let at-told4 = c .before .before .before .before in
+    let at-start = at-told4 .before .before .before in
+    rw (at-told4 .enum-told4 .given .1) (rw (back (at-start .fits .number)) at (c .before .before .ask-psi .ensures))
 
 pub tell-air-spec : {M : Type 1} → statement M
 tell-air-spec =

@@ -1,3 +1,4 @@
+-- `tell_gas`: each quantity of a gas by its own function, all over the accepted sheet: the cases of `gasText`.
 use Rattle.signed.specs.Zed.{back}
 use borrow.Author.Needs.{needs}
 use Rattle.console.proofs.replies.tell_gas.Statement.{statement}
@@ -49,31 +50,50 @@ same-length : tie.Need-same-length
 same-length c = search needs
 
 returns : tie.Need-returns
-returns c = rw (c .before .before .before .before .before .enum-told .given .1) (rw (back (c .before .before .before .before .before .before .before .before .before .fits .number)) at (rw (c .before .before .before .before .gas-heat-judged .ensures) at (c .before .before .put-heat .ensures)))
+returns c =
+    let at-gas-heat-judged = c .before .before .before .before in
+    let at-told = at-gas-heat-judged .before in
+    let at-start = at-told .before .before .before .before in
+    rw (at-told .enum-told .given .1) (rw (back (at-start .fits .number)) at (rw (at-gas-heat-judged .gas-heat-judged .ensures) at (c .before .before .put-heat .ensures)))
 
 same-length-2 : tie.Need-same-length-2
 same-length-2 c = search needs
 
 returns-2 : tie.Need-returns-2
-returns-2 c = rw (c .before .before .before .before .before .enum-told2 .given .1) (rw (back (c .before .before .before .before .before .before .before .before .before .fits .number)) at (rw (c .before .before .before .before .content-judged .ensures) at (c .before .before .put-heat2 .ensures)))
+returns-2 c =
+    let at-content-judged = c .before .before .before .before in
+    let at-told2 = at-content-judged .before in
+    let at-start = at-told2 .before .before .before .before in
+    rw (at-told2 .enum-told2 .given .1) (rw (back (at-start .fits .number)) at (rw (at-content-judged .content-judged .ensures) at (c .before .before .put-heat2 .ensures)))
 
 same-length-3 : tie.Need-same-length-3
 same-length-3 c = search needs
 
 returns-3 : tie.Need-returns-3
-returns-3 c = rw (c .before .before .before .before .before .enum-told3 .given .1) (rw (back (c .before .before .before .before .before .before .before .before .before .fits .number)) at (rw (c .before .before .before .before .specific-judged .ensures) at (c .before .before .put-specific .ensures)))
+returns-3 c =
+    let at-specific-judged = c .before .before .before .before in
+    let at-told3 = at-specific-judged .before in
+    let at-start = at-told3 .before .before .before .before in
+    rw (at-told3 .enum-told3 .given .1) (rw (back (at-start .fits .number)) at (rw (at-specific-judged .specific-judged .ensures) at (c .before .before .put-specific .ensures)))
 
 same-length-4 : tie.Need-same-length-4
 same-length-4 c = search needs
 
 returns-4 : tie.Need-returns-4
-returns-4 c = rw (c .before .before .before .before .enum-told4 .given .1) (rw (back (c .before .before .before .before .before .before .before .before .fits .number)) at (c .before .before .ask-temperature .ensures))
+returns-4 c =
+    let at-told4 = c .before .before .before .before in
+    let at-start = at-told4 .before .before .before .before in
+    rw (at-told4 .enum-told4 .given .1) (rw (back (at-start .fits .number)) at (c .before .before .ask-temperature .ensures))
 
 same-length-5 : tie.Need-same-length-5
 same-length-5 c = search needs
 
 returns-5 : tie.Need-returns-5
-returns-5 c = rw (c .before .before .before .before .before .enum-told5 .given .1) (rw (back (c .before .before .before .before .before .before .before .before .before .fits .number)) at (rw (c .before .before .before .before .station-judged .ensures) at (c .before .before .put-station .ensures)))
+returns-5 c =
+    let at-station-judged = c .before .before .before .before in
+    let at-told5 = at-station-judged .before in
+    let at-start = at-told5 .before .before .before .before in
+    rw (at-told5 .enum-told5 .given .1) (rw (back (at-start .fits .number)) at (rw (at-station-judged .station-judged .ensures) at (c .before .before .put-station .ensures)))
 
 pub tell-gas-spec : {M : Type 1} → statement M
 tell-gas-spec =

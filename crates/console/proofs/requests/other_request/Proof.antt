@@ -1,3 +1,4 @@
+-- `other_request`: the word is held to the last requests in turn (`same-is`), and is unknown where it is none.
 use mathlib.Core.Path.{refl}
 use Rattle.console.specs.Requests.{otherRequest, stationWord, walkWord, markWord}
 use Rattle.console.specs.AnswersLaws.{same-is}
@@ -23,7 +24,11 @@ same-requires-2 c κs = search needs
 
 returns-2 : tie.Need-returns-2
 unfolding otherRequest
-returns-2 c = rw (same-is (c .before .before .before .before .before .before .before .args .word .now) stationWord (c .before .before .before .before .same .ensures) (c .before .before .before .if1 .left), same-is (c .before .before .before .before .before .before .before .args .word .now) walkWord (c .before .same2 .ensures) (c .if2 .taken)) refl
+returns-2 c =
+    let at-if1 = c .before .before .before in
+    let at-same = at-if1 .before in
+    let at-start = at-same .before .before .before in
+    rw (same-is (at-start .args .word .now) stationWord (at-same .same .ensures) (at-if1 .if1 .left), same-is (at-start .args .word .now) walkWord (c .before .same2 .ensures) (c .if2 .taken)) refl
 
 slice-aggregate-same-3 : tie.Need-slice-aggregate-same-3
 slice-aggregate-same-3 c = search needs
@@ -33,11 +38,31 @@ same-requires-3 c κs = search needs
 
 returns-3 : tie.Need-returns-3
 unfolding otherRequest
-returns-3 c = rw (same-is (c .before .before .before .before .before .before .before .before .before .before .args .word .now) stationWord (c .before .before .before .before .before .before .before .same .ensures) (c .before .before .before .before .before .before .if1 .left), same-is (c .before .before .before .before .before .before .before .before .before .before .args .word .now) walkWord (c .before .before .before .before .same2 .ensures) (c .before .before .before .if2 .left), same-is (c .before .before .before .before .before .before .before .before .before .before .args .word .now) markWord (c .before .same3 .ensures) (c .if3 .taken)) refl
+returns-3 c =
+    let at-if2 = c .before .before .before in
+    let at-same2 = at-if2 .before in
+    let at-if1 = at-same2 .before .before in
+    let at-same = at-if1 .before in
+    let at-start = at-same .before .before .before in
+    rw (
+      same-is (at-start .args .word .now) stationWord (at-same .same .ensures) (at-if1 .if1 .left),
+      same-is (at-start .args .word .now) walkWord (at-same2 .same2 .ensures) (at-if2 .if2 .left),
+      same-is (at-start .args .word .now) markWord (c .before .same3 .ensures) (c .if3 .taken),
+    ) refl
 
 returns-4 : tie.Need-returns-4
 unfolding otherRequest
-returns-4 c = rw (same-is (c .before .before .before .before .before .before .before .before .before .before .args .word .now) stationWord (c .before .before .before .before .before .before .before .same .ensures) (c .before .before .before .before .before .before .if1 .left), same-is (c .before .before .before .before .before .before .before .before .before .before .args .word .now) walkWord (c .before .before .before .before .same2 .ensures) (c .before .before .before .if2 .left), same-is (c .before .before .before .before .before .before .before .before .before .before .args .word .now) markWord (c .before .same3 .ensures) (c .if3 .left)) refl
+returns-4 c =
+    let at-if2 = c .before .before .before in
+    let at-same2 = at-if2 .before in
+    let at-if1 = at-same2 .before .before in
+    let at-same = at-if1 .before in
+    let at-start = at-same .before .before .before in
+    rw (
+      same-is (at-start .args .word .now) stationWord (at-same .same .ensures) (at-if1 .if1 .left),
+      same-is (at-start .args .word .now) walkWord (at-same2 .same2 .ensures) (at-if2 .if2 .left),
+      same-is (at-start .args .word .now) markWord (c .before .same3 .ensures) (c .if3 .left),
+    ) refl
 
 pub other-request-spec : {M : Type 1} → statement M
 other-request-spec =

@@ -1,3 +1,4 @@
+-- `request_of`: the word is held to each request about air in turn (`same-is`), and then to those about a gas.
 use Rattle.console.specs.AnswersLaws.{same-is}
 use Rattle.console.specs.Requests.{requestOf, airHeatWord, airPsiWord, airCpWord, airTemperatureWord}
 use mathlib.Core.Path.{refl}
@@ -23,7 +24,11 @@ same-requires-2 c κs = search needs
 
 returns-2 : tie.Need-returns-2
 unfolding requestOf
-returns-2 c = rw (same-is (c .before .before .before .before .before .before .before .args .word .now) airHeatWord (c .before .before .before .before .same .ensures) (c .before .before .before .if1 .left), same-is (c .before .before .before .before .before .before .before .args .word .now) airPsiWord (c .before .same2 .ensures) (c .if2 .taken)) refl
+returns-2 c =
+    let at-if1 = c .before .before .before in
+    let at-same = at-if1 .before in
+    let at-start = at-same .before .before .before in
+    rw (same-is (at-start .args .word .now) airHeatWord (at-same .same .ensures) (at-if1 .if1 .left), same-is (at-start .args .word .now) airPsiWord (c .before .same2 .ensures) (c .if2 .taken)) refl
 
 slice-aggregate-same-3 : tie.Need-slice-aggregate-same-3
 slice-aggregate-same-3 c = search needs
@@ -33,7 +38,17 @@ same-requires-3 c κs = search needs
 
 returns-3 : tie.Need-returns-3
 unfolding requestOf
-returns-3 c = rw (same-is (c .before .before .before .before .before .before .before .before .before .before .args .word .now) airHeatWord (c .before .before .before .before .before .before .before .same .ensures) (c .before .before .before .before .before .before .if1 .left), same-is (c .before .before .before .before .before .before .before .before .before .before .args .word .now) airPsiWord (c .before .before .before .before .same2 .ensures) (c .before .before .before .if2 .left), same-is (c .before .before .before .before .before .before .before .before .before .before .args .word .now) airCpWord (c .before .same3 .ensures) (c .if3 .taken)) refl
+returns-3 c =
+    let at-if2 = c .before .before .before in
+    let at-same2 = at-if2 .before in
+    let at-if1 = at-same2 .before .before in
+    let at-same = at-if1 .before in
+    let at-start = at-same .before .before .before in
+    rw (
+      same-is (at-start .args .word .now) airHeatWord (at-same .same .ensures) (at-if1 .if1 .left),
+      same-is (at-start .args .word .now) airPsiWord (at-same2 .same2 .ensures) (at-if2 .if2 .left),
+      same-is (at-start .args .word .now) airCpWord (c .before .same3 .ensures) (c .if3 .taken),
+    ) refl
 
 slice-aggregate-same-4 : tie.Need-slice-aggregate-same-4
 slice-aggregate-same-4 c = search needs
@@ -43,14 +58,41 @@ same-requires-4 c κs = search needs
 
 returns-4 : tie.Need-returns-4
 unfolding requestOf
-returns-4 c = rw (same-is (c .before .before .before .before .before .before .before .before .before .before .before .before .before .args .word .now) airHeatWord (c .before .before .before .before .before .before .before .before .before .before .same .ensures) (c .before .before .before .before .before .before .before .before .before .if1 .left), same-is (c .before .before .before .before .before .before .before .before .before .before .before .before .before .args .word .now) airPsiWord (c .before .before .before .before .before .before .before .same2 .ensures) (c .before .before .before .before .before .before .if2 .left), same-is (c .before .before .before .before .before .before .before .before .before .before .before .before .before .args .word .now) airCpWord (c .before .before .before .before .same3 .ensures) (c .before .before .before .if3 .left), same-is (c .before .before .before .before .before .before .before .before .before .before .before .before .before .args .word .now) airTemperatureWord (c .before .same4 .ensures) (c .if4 .taken)) refl
+returns-4 c =
+    let at-if3 = c .before .before .before in
+    let at-same3 = at-if3 .before in
+    let at-if2 = at-same3 .before .before in
+    let at-same2 = at-if2 .before in
+    let at-if1 = at-same2 .before .before in
+    let at-same = at-if1 .before in
+    let at-start = at-same .before .before .before in
+    rw (
+      same-is (at-start .args .word .now) airHeatWord (at-same .same .ensures) (at-if1 .if1 .left),
+      same-is (at-start .args .word .now) airPsiWord (at-same2 .same2 .ensures) (at-if2 .if2 .left),
+      same-is (at-start .args .word .now) airCpWord (at-same3 .same3 .ensures) (at-if3 .if3 .left),
+      same-is (at-start .args .word .now) airTemperatureWord (c .before .same4 .ensures) (c .if4 .taken),
+    ) refl
 
 gas-request-requires : tie.Need-gas-request-requires
 gas-request-requires c κs = search needs
 
 returns-5 : tie.Need-returns-5
 unfolding requestOf
-returns-5 c = rw (same-is (c .before .before .before .before .before .before .before .before .before .before .before .before .before .before .args .word .now) airHeatWord (c .before .before .before .before .before .before .before .before .before .before .before .same .ensures) (c .before .before .before .before .before .before .before .before .before .before .if1 .left), same-is (c .before .before .before .before .before .before .before .before .before .before .before .before .before .before .args .word .now) airPsiWord (c .before .before .before .before .before .before .before .before .same2 .ensures) (c .before .before .before .before .before .before .before .if2 .left), same-is (c .before .before .before .before .before .before .before .before .before .before .before .before .before .before .args .word .now) airCpWord (c .before .before .before .before .before .same3 .ensures) (c .before .before .before .before .if3 .left), same-is (c .before .before .before .before .before .before .before .before .before .before .before .before .before .before .args .word .now) airTemperatureWord (c .before .before .same4 .ensures) (c .before .if4 .left)) (c .gas-request .ensures)
+returns-5 c =
+    let at-if3 = c .before .before .before .before in
+    let at-same3 = at-if3 .before in
+    let at-if2 = at-same3 .before .before in
+    let at-same2 = at-if2 .before in
+    let at-if1 = at-same2 .before .before in
+    let at-same = at-if1 .before in
+    let at-start = at-same .before .before .before in
+    rw (
+      same-is (at-start .args .word .now) airHeatWord (at-same .same .ensures) (at-if1 .if1 .left),
+      same-is (at-start .args .word .now) airPsiWord (at-same2 .same2 .ensures) (at-if2 .if2 .left),
+      same-is (at-start .args .word .now) airCpWord (at-same3 .same3 .ensures) (at-if3 .if3 .left),
+      same-is (at-start .args .word .now) airTemperatureWord (c .before .before .same4 .ensures) (c .before .if4 .left),
+    )
+    (c .gas-request .ensures)
 
 pub request-of-spec : {M : Type 1} → statement M
 request-of-spec =

@@ -1,3 +1,4 @@
+-- `put_end`: a walk that was done ends with its steps; a stopped or refused one has its refusal behind them.
 use Rattle.text.specs.PutLaws.{put-none}
 use borrow.Author.Needs.{needs}
 use Rattle.console.proofs.walks.put_end.Statement.{statement}
@@ -22,7 +23,9 @@ put-refused-requires-2 : tie.Need-put-refused-requires-2
 put-refused-requires-2 c κs = search needs
 
 returns : tie.Need-returns
-returns c = rw (c .enum-told .given .1) (put-none (c .before .before .before .args .out .now) (c .before .before .before .args .at) (c .before .before .before .pre))
+returns c =
+    let at-start = c .before .before .before in
+    rw (c .enum-told .given .1) (put-none (at-start .args .out .now) (at-start .args .at) (at-start .pre))
 
 same-length : tie.Need-same-length
 same-length c = search needs

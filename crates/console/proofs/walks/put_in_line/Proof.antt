@@ -1,3 +1,4 @@
+-- `put_in_line`: the mK, the rest, the number of looks and the looks, each behind the one before (`put-then`).
 use Rattle.text.specs.PutLaws.{put-then}
 use Rattle.signed.specs.Zed.{back}
 use borrow.Author.Needs.{needs}
@@ -17,7 +18,13 @@ same-length : tie.Need-same-length
 same-length c = search needs
 
 returns : tie.Need-returns
-returns c = put-then (put-then (rw (back (c .before .before .before .before .before .before .before .before .before .before .before .before .before .before .fits .mk)) at (c .before .before .before .before .before .before .before .before .before .before .put-signed .ensures)) (rw (back (c .before .before .before .before .before .before .before .before .before .before .before .before .before .before .fits .rest)) at (c .before .before .before .before .before .before .put-signed2 .ensures))) (c .before .before .put-looks .ensures)
+returns c =
+    let at-put-signed2 = c .before .before .before .before .before .before in
+    let at-put-signed = at-put-signed2 .before .before .before .before in
+    let at-start = at-put-signed .before .before .before .before in
+    put-then
+    (put-then (rw (back (at-start .fits .mk)) at (at-put-signed .put-signed .ensures)) (rw (back (at-start .fits .rest)) at (at-put-signed2 .put-signed2 .ensures)))
+    (c .before .before .put-looks .ensures)
 
 pub put-in-line-spec : {M : Type 1} → statement M
 put-in-line-spec =

@@ -1,3 +1,4 @@
+-- `put_line`: how the walk ended, then its steps from the lists that it wrote (`put-then`).
 use Rattle.text.specs.PutLaws.{put-then}
 use borrow.Author.Needs.{needs}
 use Rattle.console.proofs.walks.put_line.Statement.{statement}
@@ -16,7 +17,10 @@ same-length : tie.Need-same-length
 same-length c = search needs
 
 returns : tie.Need-returns
-returns c = put-then (c .before .before .before .before .before .before .before .put-course .ensures) (rw (c .before .before .before .before .steps-done .ensures) at (c .before .before .put-steps .ensures))
+returns c =
+    let at-steps-done = c .before .before .before .before in
+    let at-put-course = at-steps-done .before .before .before in
+    put-then (at-put-course .put-course .ensures) (rw (at-steps-done .steps-done .ensures) at (c .before .before .put-steps .ensures))
 
 pub put-line-spec : {M : Type 1} → statement M
 put-line-spec =

@@ -1,3 +1,4 @@
+-- `put_on_page`: the step's number, mK, rest and number of looks, then the line feed, each behind the one before (`put-then`).
 use Rattle.text.specs.PutLaws.{put-then}
 use Rattle.signed.specs.Zed.{back}
 use borrow.Author.Needs.{needs}
@@ -26,7 +27,19 @@ same-length : tie.Need-same-length
 same-length c = search needs
 
 returns : tie.Need-returns
-returns c = put-then (put-then (put-then (put-then (c .before .before .before .before .before .before .before .before .before .before .before .before .before .before .before .before .before .before .before .put-decimal .ensures) (rw (back (c .before .before .before .before .before .before .before .before .before .before .before .before .before .before .before .before .before .before .before .before .before .before .before .fits .mk)) at (c .before .before .before .before .before .before .before .before .before .before .before .before .before .before .before .put-signed .ensures))) (rw (back (c .before .before .before .before .before .before .before .before .before .before .before .before .before .before .before .before .before .before .before .before .before .before .before .fits .rest)) at (c .before .before .before .before .before .before .before .before .before .before .before .put-signed2 .ensures))) (rw (c .before .before .before .before .before .before .before .before .count-looks .ensures) at (c .before .before .before .before .before .before .put-number .ensures))) (c .before .before .put-byte .ensures)
+returns c =
+    let at-put-number = c .before .before .before .before .before .before in
+    let at-count-looks = at-put-number .before .before in
+    let at-put-signed2 = at-count-looks .before .before .before in
+    let at-put-signed = at-put-signed2 .before .before .before .before in
+    let at-put-decimal = at-put-signed .before .before .before .before in
+    let at-start = at-put-decimal .before .before .before .before in
+    put-then
+    (put-then
+    (put-then (put-then (at-put-decimal .put-decimal .ensures) (rw (back (at-start .fits .mk)) at (at-put-signed .put-signed .ensures)))
+    (rw (back (at-start .fits .rest)) at (at-put-signed2 .put-signed2 .ensures)))
+    (rw (at-count-looks .count-looks .ensures) at (at-put-number .put-number .ensures)))
+    (c .before .before .put-byte .ensures)
 
 pub put-on-page-spec : {M : Type 1} → statement M
 put-on-page-spec =

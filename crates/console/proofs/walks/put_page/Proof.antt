@@ -1,3 +1,4 @@
+-- `put_page`: the head line, the steps from the lists that the walk wrote, and how it ended (`put-then`).
 use Rattle.text.specs.PutLaws.{put-then}
 use borrow.Author.Needs.{needs}
 use Rattle.console.proofs.walks.put_page.Statement.{statement}
@@ -22,7 +23,11 @@ same-length : tie.Need-same-length
 same-length c = search needs
 
 returns : tie.Need-returns
-returns c = put-then (put-then (c .before .before .before .before .before .before .before .before .before .before .before .put-text .ensures) (rw (c .before .before .before .before .before .before .before .before .steps-done .ensures) at (c .before .before .before .before .before .before .put-steps .ensures))) (c .before .before .put-end .ensures)
+returns c =
+    let at-put-steps = c .before .before .before .before .before .before in
+    let at-steps-done = at-put-steps .before .before in
+    let at-put-text = at-steps-done .before .before .before in
+    put-then (put-then (at-put-text .put-text .ensures) (rw (at-steps-done .steps-done .ensures) at (at-put-steps .put-steps .ensures))) (c .before .before .put-end .ensures)
 
 pub put-page-spec : {M : Type 1} → statement M
 put-page-spec =

@@ -1,3 +1,4 @@
+-- `put_refused`: `refused`, the number and the line feed, each behind the one before (`put-then`).
 use Rattle.text.specs.PutLaws.{put-then}
 use borrow.Author.Needs.{needs}
 use Rattle.console.proofs.walks.put_refused.Statement.{statement}
@@ -19,7 +20,10 @@ same-length : tie.Need-same-length
 same-length c = search needs
 
 returns : tie.Need-returns
-returns c = put-then (put-then (c .before .before .before .before .before .before .before .before .before .before .put-text .ensures) (c .before .before .before .before .before .before .put-number .ensures)) (c .before .before .put-byte .ensures)
+returns c =
+    let at-put-number = c .before .before .before .before .before .before in
+    let at-put-text = at-put-number .before .before .before .before in
+    put-then (put-then (at-put-text .put-text .ensures) (at-put-number .put-number .ensures)) (c .before .before .put-byte .ensures)
 
 pub put-refused-spec : {M : Type 1} → statement M
 put-refused-spec =

@@ -1,3 +1,4 @@
+-- `put_step`: the two layouts of a step, each by its own function.
 use Rattle.signed.specs.Zed.{back}
 use borrow.Author.Needs.{needs}
 use Rattle.console.proofs.walks.put_step.Statement.{statement}
@@ -19,13 +20,19 @@ same-length : tie.Need-same-length
 same-length c = search needs
 
 returns : tie.Need-returns
-returns c = rw (c .before .before .before .before .enum-told .given .1) (rw (back (c .before .before .before .before .before .before .before .before .fits .mk), back (c .before .before .before .before .before .before .before .before .fits .rest)) at (c .before .before .put-in-line .ensures))
+returns c =
+    let at-told = c .before .before .before .before in
+    let at-start = at-told .before .before .before .before in
+    rw (at-told .enum-told .given .1) (rw (back (at-start .fits .mk), back (at-start .fits .rest)) at (c .before .before .put-in-line .ensures))
 
 same-length-2 : tie.Need-same-length-2
 same-length-2 c = search needs
 
 returns-2 : tie.Need-returns-2
-returns-2 c = rw (c .before .before .before .before .enum-told2 .given .1) (rw (back (c .before .before .before .before .before .before .before .before .fits .mk), back (c .before .before .before .before .before .before .before .before .fits .rest)) at (c .before .before .put-on-page .ensures))
+returns-2 c =
+    let at-told2 = c .before .before .before .before in
+    let at-start = at-told2 .before .before .before .before in
+    rw (at-told2 .enum-told2 .given .1) (rw (back (at-start .fits .mk), back (at-start .fits .rest)) at (c .before .before .put-on-page .ensures))
 
 pub put-step-spec : {M : Type 1} → statement M
 put-step-spec =

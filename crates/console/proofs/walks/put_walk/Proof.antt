@@ -1,3 +1,4 @@
+-- `put_walk`: the two layouts of a walk, each by its own function.
 use borrow.Author.Needs.{needs}
 use Rattle.console.proofs.walks.put_walk.Statement.{statement}
 use Rattle.console.proofs.walks.put_walk.Tie as tie

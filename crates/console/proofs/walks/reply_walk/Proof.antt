@@ -1,3 +1,4 @@
+-- `reply_walk`: fewer numbers than a start are a misfit (`walk-misfit`); what the list holds of the others tells the same walk as all of them do (`walk-kept`).
 use mathlib.Core.Path.{refl}
 use Rattle.console.specs.Limits.{heldNumbers}
 use Rattle.console.specs.WalksLaws.{walk-misfit, walk-kept}
@@ -29,7 +30,16 @@ same-length : tie.Need-same-length
 same-length c = search needs
 
 returns : tie.Need-returns
-returns c = rw (← walk-misfit (c .before .before .before .before .before .before .before .before .before .before .before .before .args .verdict) (c .before .before .before .before .before .before .before .before .before .before .before .before .args .sheet .now) (fieldsFrom (c .before .before .before .before .before .before .before .before .before .before .before .before .args .line .now) (c .before .before .before .before .before .before .before .before .before .before .before .before .args .from)) (replicate heldNumbers (pos 0)) (c .before .before .before .before .before .before .before .read-numbers .last .1 .1 .0) refl (c .before .before .before .before .before .before .before .read-numbers .result) (c .before .before .before .before .before .held-of .result) (c .before .before .before .before .before .before .before .read-numbers .ensures .0) (c .before .before .before .before .before .held-of .ensures) (c .before .before .before .before .if1 .taken)) (c .before .before .put-misfit .ensures)
+returns c =
+    let at-if1 = c .before .before .before .before in
+    let at-held-of = at-if1 .before in
+    let at-read-numbers = at-held-of .before .before in
+    let at-start = at-read-numbers .before .before .before .before .before in
+    rw
+    (← walk-misfit (at-start .args .verdict) (at-start .args .sheet .now) (fieldsFrom (at-start .args .line .now) (at-start .args .from))
+    (replicate heldNumbers (pos 0)) (at-read-numbers .read-numbers .last .1 .1 .0) refl (at-read-numbers .read-numbers .result) (at-held-of .held-of .result)
+    (at-read-numbers .read-numbers .ensures .0) (at-held-of .held-of .ensures) (at-if1 .if1 .taken))
+    (c .before .before .put-misfit .ensures)
 
 slice-aggregate-charge-in : tie.Need-slice-aggregate-charge-in
 slice-aggregate-charge-in c = search needs
@@ -54,8 +64,17 @@ same-length-2 c = search needs
 
 returns-2 : tie.Need-returns-2
 returns-2 c =
-    let f3 : SFits w64 (getD (c .before .before .before .before .before .before .before .before .before .before .before .before .read-numbers .last .1 .1 .0) 3 (pos 0)) = search needs in
-    rw (walk-kept (c .before .before .before .before .before .before .before .before .before .before .before .before .before .before .before .before .before .args .verdict) (c .before .before .before .before .before .before .before .before .before .before .before .before .before .before .before .before .before .args .sheet .now) (fieldsFrom (c .before .before .before .before .before .before .before .before .before .before .before .before .before .before .before .before .before .args .line .now) (c .before .before .before .before .before .before .before .before .before .before .before .before .before .before .before .before .before .args .from)) (replicate heldNumbers (pos 0)) (c .before .before .before .before .before .before .before .before .before .before .before .before .read-numbers .last .1 .1 .0) refl (c .before .before .before .before .before .before .before .before .before .before .before .before .read-numbers .result) (c .before .before .before .before .before .before .before .before .before .before .held-of .result) (c .before .before .before .before .before .before .before .before .before .before .before .before .read-numbers .ensures .0) (c .before .before .before .before .before .before .before .before .before .before .before .before .read-numbers .ensures .1) (c .before .before .before .before .before .before .before .before .before .before .held-of .ensures) (c .before .before .before .before .before .before .before .before .before .if1 .left)) at (rw (c .before .before .before .before .before .before .before .charge-in .ensures, back f3) at (c .before .before .show .ensures))
+    let at-read-numbers = c .before .before .before .before .before .before .before .before .before .before .before .before in
+    let f3 : SFits w64 (getD (at-read-numbers .read-numbers .last .1 .1 .0) 3 (pos 0)) = search needs in
+    let at-charge-in = c .before .before .before .before .before .before .before in
+    let at-if1 = at-charge-in .before .before in
+    let at-held-of = at-if1 .before in
+    let at-start = at-read-numbers .before .before .before .before .before in
+    rw
+    (walk-kept (at-start .args .verdict) (at-start .args .sheet .now) (fieldsFrom (at-start .args .line .now) (at-start .args .from))
+    (replicate heldNumbers (pos 0)) (at-read-numbers .read-numbers .last .1 .1 .0) refl (at-read-numbers .read-numbers .result) (at-held-of .held-of .result)
+    (at-read-numbers .read-numbers .ensures .0) (at-read-numbers .read-numbers .ensures .1) (at-held-of .held-of .ensures) (at-if1 .if1 .left))
+    at (rw (at-charge-in .charge-in .ensures, back f3) at (c .before .before .show .ensures))
 
 pub reply-walk-spec : {M : Type 1} → statement M
 reply-walk-spec =

@@ -1,3 +1,4 @@
+-- `show`: the lists have room for every step (`holds`), and each step's looks are those of a search (`walk-searched`): so what they hold is the walk's text (`walk-shown`).
 use Rattle.console.specs.WalksLaws.{walk-searched, holds, walk-shown}
 use Rattle.console.specs.Walks.{walkTold}
 use borrow.Author.Needs.{needs}
@@ -26,13 +27,25 @@ slice-aggregate-put-walk-3 : tie.Need-slice-aggregate-put-walk-3
 slice-aggregate-put-walk-3 c = search needs
 
 put-walk-requires : tie.Need-put-walk-requires
-put-walk-requires c κs = holds (walkTold (c .before .before .before .before .before .before .before .before .before .before .before .before .before .args .verdict) (c .before .before .before .before .before .before .before .before .before .before .before .before .before .args .sheet .now) (c .before .before .before .before .before .before .before .before .before .before .before .before .before .args .charge) ((c .before .before .before .before .before .before .before .before .before .before .before .before .before .args .t) .0) (c .before .before .before .before .before .before .before .before .before .before .before .before .before .args .steps .now)) (c .before .before .before .before .before .before .before .walk-held .ensures) (search needs) (search needs) (search needs)
+put-walk-requires c κs =
+    let at-start = c .before .before .before .before .before .before .before .before .before .before .before .before .before in
+    holds (walkTold (at-start .args .verdict) (at-start .args .sheet .now) (at-start .args .charge) ((at-start .args .t) .0) (at-start .args .steps .now))
+    (c .before .before .before .before .before .before .before .walk-held .ensures) (search needs) (search needs) (search needs)
 
 same-length : tie.Need-same-length
 same-length c = search needs
 
 returns : tie.Need-returns
-returns c = rw (walk-shown (walkTold (c .before .before .before .before .before .before .before .before .before .before .before .before .before .before .before .before .args .verdict) (c .before .before .before .before .before .before .before .before .before .before .before .before .before .before .before .before .args .sheet .now) (c .before .before .before .before .before .before .before .before .before .before .before .before .before .before .before .before .args .charge) ((c .before .before .before .before .before .before .before .before .before .before .before .before .before .before .before .before .args .t) .0) (c .before .before .before .before .before .before .before .before .before .before .before .before .before .before .before .before .args .steps .now)) (c .before .before .before .before .before .before .before .before .before .before .walk-held .ensures) (walk-searched (c .before .before .before .before .before .before .before .before .before .before .before .before .before .before .before .before .args .verdict) (c .before .before .before .before .before .before .before .before .before .before .before .before .before .before .before .before .args .sheet .now) (c .before .before .before .before .before .before .before .before .before .before .before .before .before .before .before .before .args .charge) ((c .before .before .before .before .before .before .before .before .before .before .before .before .before .before .before .before .args .t) .0) (c .before .before .before .before .before .before .before .before .before .before .before .before .before .before .before .before .args .steps .now)) (c .before .before .before .before .before .before .before .before .before .before .before .before .before .before .before .before .args .layout)) at (c .before .before .put-walk .ensures)
+returns c =
+    let at-walk-held = c .before .before .before .before .before .before .before .before .before .before in
+    let at-start = at-walk-held .before .before .before .before .before .before in
+    rw
+    (walk-shown
+    (walkTold (at-start .args .verdict) (at-start .args .sheet .now) (at-start .args .charge) ((at-start .args .t) .0) (at-start .args .steps .now))
+    (at-walk-held .walk-held .ensures)
+    (walk-searched (at-start .args .verdict) (at-start .args .sheet .now) (at-start .args .charge) ((at-start .args .t) .0) (at-start .args .steps .now))
+    (at-start .args .layout))
+    at (c .before .before .put-walk .ensures)
 
 pub show-spec : {M : Type 1} → statement M
 show-spec =

@@ -1,3 +1,4 @@
+-- `steps_done`: the steps that the answer counts, and none where the start was refused.
 use mathlib.Core.Path.{refl}
 use borrow.Author.Needs.{needs}
 use Rattle.console.proofs.walks.steps_done.Statement.{statement}

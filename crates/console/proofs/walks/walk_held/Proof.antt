@@ -1,3 +1,4 @@
+-- `walk_held`: over a good sheet the walk over a judged one (`walks-accepted`), over a refused one its refusal with nothing written (`walks-refused`).
 use Rattle.console.specs.WalksLaws.{walks-accepted, walks-refused}
 use Rattle.console.specs.Answers.{Judged}
 use Rattle.sheet.specs.declared.SheetAnswer.{SheetAnswer}
@@ -11,7 +12,10 @@ enum-told : tie.Need-enum-told
 enum-told c = search needs
 
 walk-judged-requires : tie.Need-walk-judged-requires
-walk-judged-requires c κs = let s = c .before .before .before .before .before .before .before in (judged-good (s .args .sheet .now) (subst (λ (v : SheetAnswer). Judged v (s .args .sheet .now)) (c .before .before .before .enum-told .given .1) (s .pre .0)), s .pre .1)
+walk-judged-requires c κs =
+    let at-told = c .before .before .before in
+    let s = at-told .before .before .before .before in
+    (judged-good (s .args .sheet .now) (subst (λ (v : SheetAnswer). Judged v (s .args .sheet .now)) (at-told .enum-told .given .1) (s .pre .0)), s .pre .1)
 
 enum-known-verdict : tie.Need-enum-known-verdict
 enum-known-verdict c = search needs

@@ -1,3 +1,5 @@
+-- `hide`: every write is inside the name, and it ends.
+-- Invariant: the name keeps its length. Measure: the bytes of it that are left.
 use native.Mathlib.Omega.{arith}
 use lib.ListN.{length-set}
 use borrow.Author.Needs.{needs}

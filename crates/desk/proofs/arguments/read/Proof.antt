@@ -1,3 +1,5 @@
+-- `read`: safe, and it ends: the words are seen one after the other.
+-- Invariant: none is needed. Measure: the words that are left.
 use borrow.Author.Needs.{needs}
 use Prim.Native.Nat.{_-_}
 use Rattle.desk.proofs.arguments.read.Statement.{statement}

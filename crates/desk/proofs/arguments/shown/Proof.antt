@@ -1,3 +1,4 @@
+-- `shown`: bytes below 32, and 127, are shown as `?`, every other as itself: `shownByte`.
 use mathlib.Core.Path.{refl}
 use borrow.Author.Tests.{lt-ltb, le-ltb, eq-eqb, ne-eqb}
 use Rattle.desk.proofs.arguments.shown.Statement.{statement}

@@ -1,3 +1,4 @@
+-- `answer_held`: an open output has room for a whole answer (`free-at`), and is given it again by `make_room` (`roomed-free`); a closed one stays closed.
 use Rattle.console.specs.Limits.{answerRoom}
 use Rattle.stream.specs.WritingLaws.{free-at, leaves-open, roomed-free}
 use Rattle.stream.specs.declared.Output.the-variants.{At}
@@ -16,7 +17,9 @@ returns : tie.Need-returns
 returns c = record { free = tt; closed = rw (c .enum-told .given .1) (refl, refl) }
 
 put-answer-requires : tie.Need-put-answer-requires
-put-answer-requires c κs = (c .before .before .before .before .before .before .before .pre .0, free-at answerRoom (c .before .before .before .before .before .before .before .args .out .now) (c .before .before .output .given .1) (c .before .before .before .before .before .before .before .pre .2) (c .before .before .before .before .before .before .before .pre .1), c .before .before .before .before .before .before .before .pre .3)
+put-answer-requires c κs =
+    let at-start = c .before .before .before .before .before .before .before in
+    (at-start .pre .0, free-at answerRoom (at-start .args .out .now) (c .before .before .output .given .1) (at-start .pre .2) (at-start .pre .1), at-start .pre .3)
 
 make-room-requires : tie.Need-make-room-requires
 make-room-requires c κs = search needs
@@ -25,7 +28,12 @@ same-length : tie.Need-same-length
 same-length c = search needs
 
 returns-2 : tie.Need-returns-2
-returns-2 c = leaves-open (c .make-room .result) (c .before .before .before .before .before .before .before .before .before .before .before .before .args .out .now) (c .before .before .before .before .put-answer .last .1 .1 .1 .1 .1 .1 .1 .0) (c .before .before .before .before .before .before .before .output .given .1) (roomed-free (c .before .before .before .before .put-answer .last .1 .1 .1 .1 .1 .1 .1 .0) (At (c .before .before .before .before .put-answer .result)) (c .make-room .result) (c .make-room .ensures))
+returns-2 c =
+    let at-put-answer = c .before .before .before .before in
+    let at-output = at-put-answer .before .before .before in
+    let at-start = at-output .before .before .before .before .before in
+    leaves-open (c .make-room .result) (at-start .args .out .now) (at-put-answer .put-answer .last .1 .1 .1 .1 .1 .1 .1 .0) (at-output .output .given .1)
+    (roomed-free (at-put-answer .put-answer .last .1 .1 .1 .1 .1 .1 .1 .0) (At (at-put-answer .put-answer .result)) (c .make-room .result) (c .make-room .ensures))
 
 pub answer-held-spec : {M : Type 1} → statement M
 answer-held-spec =

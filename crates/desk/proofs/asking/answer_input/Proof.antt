@@ -1,3 +1,5 @@
+-- `answer_input`: after each piece the output is free again for the next, so no answer is cut, and it ends.
+-- Invariant: the buffers keep their lengths, and the output is free. Measure: the turns, which every turn counts down (`turns-most`).
 use Prim.Native.Nat.{_≤_}
 use Rattle.stream.specs.WritingLaws.{turns-most}
 use lib.ListN.{length-take}
@@ -14,7 +16,8 @@ use Rattle.desk.proofs.asking.answer_input.Statement.{statement}
 use Rattle.desk.proofs.asking.answer_input.Tie as tie
 
 abbrev Inv-loop : tie.InvT-loop
-Inv-loop verdict sheet air psis cps piece₀ line₀ out₀ turn₀ turns₀ t11 piece line out turn turns = (length line ≡ length line₀) × (length out ≡ length out₀) × (length piece ≡ length piece₀) × Free (turn .output) out
+Inv-loop verdict sheet air psis cps piece₀ line₀ out₀ turn₀ turns₀ t11 piece line out turn turns =
+    (length line ≡ length line₀) × (length out ≡ length out₀) × (length piece ≡ length piece₀) × Free (turn .output) out
 
 abbrev μ-loop : tie.MeasureT-loop
 μ-loop verdict sheet air psis cps piece₀ line₀ out₀ turn₀ turns₀ t11 piece line out turn turns = turns
@@ -35,10 +38,18 @@ enum-known-n : tie.Need-enum-known-n Inv-loop μ-loop
 enum-known-n c = search needs
 
 slice-reshare-prefix-answer-piece : tie.Need-slice-reshare-prefix-answer-piece Inv-loop μ-loop
-slice-reshare-prefix-answer-piece c = let h : c .before .n .given .0 .0 ≤ length (c .before .before .before .before .before .read-some .last .1 .1 .0) = subst (λ (g : Got). Inside g (c .before .before .before .before .before .read-some .last .1 .1 .0)) (c .before .n .given .1) (c .before .before .before .before .before .read-some .ensures) in omega arith
+slice-reshare-prefix-answer-piece c =
+    let at-read-some = c .before .before .before .before .before in
+    let h : c .before .n .given .0 .0 ≤ length (at-read-some .read-some .last .1 .1 .0) =
+    subst (λ (g : Got). Inside g (at-read-some .read-some .last .1 .1 .0)) (c .before .n .given .1) (at-read-some .read-some .ensures) in
+    omega arith
 
 slice-aggregate-answer-piece : tie.Need-slice-aggregate-answer-piece Inv-loop μ-loop
-slice-aggregate-answer-piece c = let h : c .before .before .n .given .0 .0 ≤ length (c .before .before .before .before .before .before .read-some .last .1 .1 .0) = subst (λ (g : Got). Inside g (c .before .before .before .before .before .before .read-some .last .1 .1 .0)) (c .before .before .n .given .1) (c .before .before .before .before .before .before .read-some .ensures) in simp length-take (omega arith)
+slice-aggregate-answer-piece c =
+    let at-read-some = c .before .before .before .before .before .before in
+    let h : c .before .before .n .given .0 .0 ≤ length (at-read-some .read-some .last .1 .1 .0) =
+    subst (λ (g : Got). Inside g (at-read-some .read-some .last .1 .1 .0)) (c .before .before .n .given .1) (at-read-some .read-some .ensures) in
+    simp length-take (omega arith)
 
 answer-piece-requires : tie.Need-answer-piece-requires Inv-loop μ-loop
 answer-piece-requires c κs = search needs
@@ -47,7 +58,10 @@ turns-left-requires : tie.Need-turns-left-requires Inv-loop μ-loop
 turns-left-requires c κs = search needs
 
 loop-less : tie.Need-loop-less Inv-loop μ-loop
-loop-less c = omega (arith, c .turns-left .ensures, turns-most (c .before .before .before .before .before .before .before .before .before .before .before .before .before .before .before .before .before .before .loop .turns - 1) (c .before .before .before .before .before .answer-piece .result .output))
+loop-less c =
+    let at-answer-piece = c .before .before .before .before .before in
+    let at-loop = at-answer-piece .before .before .before .before .before .before .before .before .before .before .before .before .before in
+    omega (arith, c .turns-left .ensures, turns-most (at-loop .loop .turns - 1) (at-answer-piece .answer-piece .result .output))
 
 loop-again : tie.Need-loop-again Inv-loop μ-loop
 loop-again c = (search needs, search needs, search needs, c .before .before .before .before .before .answer-piece .ensures .free)

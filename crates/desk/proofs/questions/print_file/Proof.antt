@@ -1,3 +1,4 @@
+-- `print_file`: the shown name is a part of its buffer, and the walk is printed over the sheet with its own verdict.
 use native.Mathlib.Omega.{arith}
 use lib.ListN.{length-take}
 use borrow.Author.Needs.{needs}

@@ -1,3 +1,5 @@
+-- `read_all`: what is taken of each piece is inside it, and it ends.
+-- Invariant: the buffers and the list keep their lengths. Measure: the turns, which every turn counts down.
 use lib.ListN.{length-take}
 use Rattle.stream.specs.declared.Got.{Got}
 use Rattle.stream.specs.Taking.{Inside}
@@ -29,10 +31,18 @@ enum-known-n : tie.Need-enum-known-n Inv-loop μ-loop
 enum-known-n c = search needs
 
 slice-reshare-prefix-take-piece : tie.Need-slice-reshare-prefix-take-piece Inv-loop μ-loop
-slice-reshare-prefix-take-piece c = let h : c .before .n .given .0 .0 ≤ length (c .before .before .before .before .before .read-some .last .1 .1 .0) = subst (λ (g : Got). Inside g (c .before .before .before .before .before .read-some .last .1 .1 .0)) (c .before .n .given .1) (c .before .before .before .before .before .read-some .ensures) in omega arith
+slice-reshare-prefix-take-piece c =
+    let at-read-some = c .before .before .before .before .before in
+    let h : c .before .n .given .0 .0 ≤ length (at-read-some .read-some .last .1 .1 .0) =
+    subst (λ (g : Got). Inside g (at-read-some .read-some .last .1 .1 .0)) (c .before .n .given .1) (at-read-some .read-some .ensures) in
+    omega arith
 
 slice-aggregate-take-piece : tie.Need-slice-aggregate-take-piece Inv-loop μ-loop
-slice-aggregate-take-piece c = let h : c .before .before .n .given .0 .0 ≤ length (c .before .before .before .before .before .before .read-some .last .1 .1 .0) = subst (λ (g : Got). Inside g (c .before .before .before .before .before .before .read-some .last .1 .1 .0)) (c .before .before .n .given .1) (c .before .before .before .before .before .before .read-some .ensures) in simp length-take (omega arith)
+slice-aggregate-take-piece c =
+    let at-read-some = c .before .before .before .before .before .before in
+    let h : c .before .before .n .given .0 .0 ≤ length (at-read-some .read-some .last .1 .1 .0) =
+    subst (λ (g : Got). Inside g (at-read-some .read-some .last .1 .1 .0)) (c .before .before .n .given .1) (at-read-some .read-some .ensures) in
+    simp length-take (omega arith)
 
 take-piece-requires : tie.Need-take-piece-requires Inv-loop μ-loop
 take-piece-requires c κs = search needs

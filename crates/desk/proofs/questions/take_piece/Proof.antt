@@ -1,3 +1,5 @@
+-- `take_piece`: each line that ends in the piece is taken into the question, and it ends.
+-- Invariant: the line's buffer and the list keep their lengths. Measure: the bytes of the piece that are left, since a line takes one or more (`goes-on`).
 use native.Mathlib.Omega.{arith}
 use lib.ListN.{length}
 use mathlib.Core.Path.{_≡_}
@@ -23,7 +25,10 @@ take-held-requires : tie.Need-take-held-requires Inv-loop μ-loop
 take-held-requires c κs = search needs
 
 loop-less : tie.Need-loop-less Inv-loop μ-loop
-loop-less c = omega (arith, goes-on (c .before .before .before .before .before .before .before .take-line .ensures) (c .before .before .before .before .before .before .before .before .before .loop-test .taken))
+loop-less c =
+    let at-take-line = c .before .before .before .before .before .before .before in
+    let at-loop-test = at-take-line .before .before in
+    omega (arith, goes-on (at-take-line .take-line .ensures) (at-loop-test .loop-test .taken))
 
 loop-again : tie.Need-loop-again Inv-loop μ-loop
 loop-again c = search needs

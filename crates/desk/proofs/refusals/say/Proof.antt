@@ -1,3 +1,4 @@
+-- `say`: over a good sheet, which is accepted (`judged-good`), the walk's refusal is said, else the sheet's.
 use mathlib.Core.Path.{subst}
 use borrow.Author.Needs.{needs}
 use Rattle.sheet.specs.declared.SheetAnswer.{SheetAnswer}

@@ -1,3 +1,5 @@
+-- `fill`: what it counts as read is in the buffer, and it ends.
+-- Invariant: n bytes stand in the buffer, and the buffers keep their lengths. Measure: the turns, which every turn counts down.
 use lib.ListN.{length-take}
 use Rattle.stream.specs.declared.Got.{Got}
 use Rattle.stream.specs.Taking.{Inside}
@@ -29,10 +31,18 @@ enum-known-more : tie.Need-enum-known-more Inv-loop μ-loop
 enum-known-more c = search needs
 
 slice-reshare-prefix-put-text : tie.Need-slice-reshare-prefix-put-text Inv-loop μ-loop
-slice-reshare-prefix-put-text c = let h : c .before .more .given .0 .0 ≤ length (c .before .before .before .before .before .read-some .last .1 .1 .0) = subst (λ (g : Got). Inside g (c .before .before .before .before .before .read-some .last .1 .1 .0)) (c .before .more .given .1) (c .before .before .before .before .before .read-some .ensures) in omega arith
+slice-reshare-prefix-put-text c =
+    let at-read-some = c .before .before .before .before .before in
+    let h : c .before .more .given .0 .0 ≤ length (at-read-some .read-some .last .1 .1 .0) =
+    subst (λ (g : Got). Inside g (at-read-some .read-some .last .1 .1 .0)) (c .before .more .given .1) (at-read-some .read-some .ensures) in
+    omega arith
 
 slice-aggregate-put-text : tie.Need-slice-aggregate-put-text Inv-loop μ-loop
-slice-aggregate-put-text c = let h : c .before .before .more .given .0 .0 ≤ length (c .before .before .before .before .before .before .read-some .last .1 .1 .0) = subst (λ (g : Got). Inside g (c .before .before .before .before .before .before .read-some .last .1 .1 .0)) (c .before .before .more .given .1) (c .before .before .before .before .before .before .read-some .ensures) in simp length-take (omega arith)
+slice-aggregate-put-text c =
+    let at-read-some = c .before .before .before .before .before .before in
+    let h : c .before .before .more .given .0 .0 ≤ length (at-read-some .read-some .last .1 .1 .0) =
+    subst (λ (g : Got). Inside g (at-read-some .read-some .last .1 .1 .0)) (c .before .before .more .given .1) (at-read-some .read-some .ensures) in
+    simp length-take (omega arith)
 
 put-text-requires : tie.Need-put-text-requires Inv-loop μ-loop
 put-text-requires c κs = search needs

@@ -1,3 +1,4 @@
+-- `read`: the shown name is a part of its buffer; a file that cannot be opened fills nothing, else `fill` says how much.
 use native.Mathlib.Omega.{arith}
 use lib.ListN.{length-take}
 use borrow.Author.Needs.{needs}

@@ -1,3 +1,4 @@
+-- `report`: safe: what was read stands in the buffer (`Filled`), so its first n bytes are there to be judged and looked at.
 use mathlib.Core.Path.{subst}
 use Prim.Native.Nat.{_≤_}
 use lib.ListN.{length, length-take}
@@ -45,15 +46,25 @@ slice-aggregate-report-3 c = search needs
 
 -- src/sheets.rt:128:17
 report-requires : tie.Need-report-requires
-report-requires c κs = let h : c .before .before .before .before .n .given .0 .0 ≤ length (c .before .before .before .before .before .before .before .read .last .1 .0) = subst (λ (x : Text). Filled x (c .before .before .before .before .before .before .before .read .last .1 .0)) (c .before .before .before .before .n .given .1) (c .before .before .before .before .before .before .before .read .ensures) in h
+report-requires c κs =
+    let at-n = c .before .before .before .before in
+    let at-read = at-n .before .before .before in
+    let h : at-n .n .given .0 .0 ≤ length (at-read .read .last .1 .0) = subst (λ (x : Text). Filled x (at-read .read .last .1 .0)) (at-n .n .given .1) (at-read .read .ensures) in h
 
 -- src/sheets.rt:131:33
 array-share-prefix-bytes : tie.Need-array-share-prefix-bytes
-array-share-prefix-bytes c = let h : c .before .before .before .before .before .before .before .n .given .0 .0 ≤ length (c .before .before .before .before .before .before .before .before .before .before .read .last .1 .0) = subst (λ (x : Text). Filled x (c .before .before .before .before .before .before .before .before .before .before .read .last .1 .0)) (c .before .before .before .before .before .before .before .n .given .1) (c .before .before .before .before .before .before .before .before .before .before .read .ensures) in h
+array-share-prefix-bytes c =
+    let at-n = c .before .before .before .before .before .before .before in
+    let at-read = at-n .before .before .before in
+    let h : at-n .n .given .0 .0 ≤ length (at-read .read .last .1 .0) = subst (λ (x : Text). Filled x (at-read .read .last .1 .0)) (at-n .n .given .1) (at-read .read .ensures) in h
 
 -- src/sheets.rt:131:33
 slice-aggregate-say-return : tie.Need-slice-aggregate-say-return
-slice-aggregate-say-return c = let h : c .before .before .before .before .before .before .before .before .n .given .0 .0 ≤ length (c .before .before .before .before .before .before .before .before .before .before .before .read .last .1 .0) = subst (λ (x : Text). Filled x (c .before .before .before .before .before .before .before .before .before .before .before .read .last .1 .0)) (c .before .before .before .before .before .before .before .before .n .given .1) (c .before .before .before .before .before .before .before .before .before .before .before .read .ensures) in simp length-take (omega arith)
+slice-aggregate-say-return c =
+    let at-n = c .before .before .before .before .before .before .before .before in
+    let at-read = at-n .before .before .before in
+    let h : at-n .n .given .0 .0 ≤ length (at-read .read .last .1 .0) = subst (λ (x : Text). Filled x (at-read .read .last .1 .0)) (at-n .n .given .1) (at-read .read .ensures) in
+    simp length-take (omega arith)
 
 -- src/sheets.rt:131:13
 say-return-requires : tie.Need-say-return-requires

@@ -1,3 +1,5 @@
+-- `row_end`: a place from the row's start to the text's end.
+-- Invariant: i is from the row's start to the text's end. Measure: the bytes that are left.
 use borrow.Author.Needs.{needs}
 use Prim.Native.Nat.{_-_, _≤_}
 use lib.ListN.{length}

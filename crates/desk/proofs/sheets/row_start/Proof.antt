@@ -1,3 +1,5 @@
+-- `row_start`: a place of the text, or its end.
+-- Invariant: the place is not past the end. Measure: the rows that are left to pass.
 use borrow.Author.Needs.{needs}
 use Prim.Native.Nat.{_≤_}
 use lib.ListN.{length}

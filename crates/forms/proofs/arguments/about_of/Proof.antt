@@ -1,3 +1,4 @@
+-- `about_of`: three calls of `word_if`, each over what the one before found: `aboutOf`, equation by equation.
 use Rattle.forms.specs.Arguments.{aboutOf}
 use borrow.Author.Needs.{needs}
 use Rattle.forms.proofs.arguments.about_of.Statement.{statement}

@@ -1,3 +1,4 @@
+-- `alone`: an arm for each word, as `alone` of specs/Arguments.antt has them.
 use borrow.Author.Needs.{needs}
 use Rattle.forms.proofs.arguments.alone.Statement.{statement}
 use Rattle.forms.proofs.arguments.alone.Tie as tie

@@ -1,3 +1,4 @@
+-- `first_with`: argument 1 is the first word, and no other is.
 use borrow.Author.Tests.{eq-eqb, ne-eqb}
 use mathlib.Core.Path.{refl}
 use Rattle.forms.proofs.arguments.first_with.Statement.{statement}

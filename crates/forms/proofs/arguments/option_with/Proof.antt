@@ -1,3 +1,4 @@
+-- `option_with`: the first option stays; where there was none, this word may be it.
 use borrow.Author.Tests.{eq-eqb, ne-eqb}
 use mathlib.Core.Path.{refl}
 use borrow.Author.Needs.{needs}

@@ -1,3 +1,4 @@
+-- `plain`: none, one, two or more words after the name, by the tests in their order.
 use borrow.Author.Tests.{lt-ltb, le-ltb, eq-eqb, ne-eqb}
 use mathlib.Core.Path.{refl}
 use borrow.Author.Needs.{needs}
@@ -18,7 +19,9 @@ alone-requires c κs = search needs
 
 -- src/arguments.rt:136:9
 returns-2 : tie.Need-returns-2
-returns-2 c = rw (le-ltb (c .before .before .before .args .count) 2 (c .before .before .if1 .left), eq-eqb (c .before .before .before .args .count) 2 (c .before .if2 .taken)) (c .alone .ensures)
+returns-2 c =
+    let at-start = c .before .before .before in
+    rw (le-ltb (at-start .args .count) 2 (c .before .before .if1 .left), eq-eqb (at-start .args .count) 2 (c .before .if2 .taken)) (c .alone .ensures)
 
 -- src/arguments.rt:139:9
 with-file-requires : tie.Need-with-file-requires
@@ -26,11 +29,18 @@ with-file-requires c κs = search needs
 
 -- src/arguments.rt:139:9
 returns-3 : tie.Need-returns-3
-returns-3 c = rw (le-ltb (c .before .before .before .before .args .count) 2 (c .before .before .before .if1 .left), ne-eqb (c .before .before .before .before .args .count) 2 (c .before .before .if2 .left), eq-eqb (c .before .before .before .before .args .count) 3 (c .before .if3 .taken)) (c .with-file .ensures)
+returns-3 c =
+    let at-if1 = c .before .before .before in
+    let at-start = at-if1 .before in
+    rw
+    (le-ltb (at-start .args .count) 2 (at-if1 .if1 .left), ne-eqb (at-start .args .count) 2 (c .before .before .if2 .left), eq-eqb (at-start .args .count) 3 (c .before .if3 .taken))
+    (c .with-file .ensures)
 
 -- src/arguments.rt:129:1
 returns-4 : tie.Need-returns-4
-returns-4 c = rw (le-ltb (c .before .before .before .args .count) 2 (c .before .before .if1 .left), ne-eqb (c .before .before .before .args .count) 2 (c .before .if2 .left), ne-eqb (c .before .before .before .args .count) 3 (c .if3 .left)) refl
+returns-4 c =
+    let at-start = c .before .before .before in
+    rw (le-ltb (at-start .args .count) 2 (c .before .before .if1 .left), ne-eqb (at-start .args .count) 2 (c .before .if2 .left), ne-eqb (at-start .args .count) 3 (c .if3 .left)) refl
 
 pub plain-spec : {M : Type 1} → statement M
 plain-spec =

@@ -1,3 +1,4 @@
+-- `with_file`: an arm for each word, as `withFile` has them.
 use borrow.Author.Needs.{needs}
 use Rattle.forms.proofs.arguments.with_file.Statement.{statement}
 use Rattle.forms.proofs.arguments.with_file.Tie as tie

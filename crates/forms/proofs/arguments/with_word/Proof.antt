@@ -1,3 +1,4 @@
+-- `with_word`: both fields by the equations of the calls.
 use mathlib.Core.Path.{refl}
 use borrow.Author.Needs.{needs}
 use Rattle.forms.proofs.arguments.with_word.Statement.{statement}

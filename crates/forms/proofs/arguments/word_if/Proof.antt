@@ -1,3 +1,4 @@
+-- `word_if`: the word where the two texts are the same byte for byte, by what `same` tells; else what was found before.
 use Rattle.forms.specs.Arguments.{namedOf}
 use Rattle.console.specs.AnswersLaws.{same-is}
 use mathlib.Core.Path.{refl}
@@ -15,12 +16,16 @@ same-requires c κs = search needs
 -- src/arguments.rt:47:1
 returns : tie.Need-returns
 unfolding namedOf
-returns c = rw (same-is (c .before .before .before .before .args .text .now) (c .before .before .before .before .args .name .now) (c .before .same .ensures) (c .if1 .taken)) refl
+returns c =
+    let at-start = c .before .before .before .before in
+    rw (same-is (at-start .args .text .now) (at-start .args .name .now) (c .before .same .ensures) (c .if1 .taken)) refl
 
 -- src/arguments.rt:47:1
 returns-2 : tie.Need-returns-2
 unfolding namedOf
-returns-2 c = rw (same-is (c .before .before .before .before .args .text .now) (c .before .before .before .before .args .name .now) (c .before .same .ensures) (c .if1 .left)) refl
+returns-2 c =
+    let at-start = c .before .before .before .before in
+    rw (same-is (at-start .args .text .now) (at-start .args .name .now) (c .before .same .ensures) (c .if1 .left)) refl
 
 pub word-if-spec : {M : Type 1} → statement M
 word-if-spec = tie.close (tie.spec same-requires returns returns-2)

@@ -1,3 +1,4 @@
+-- `word_of`: four calls of `word_if` over what `about_of` found: `wordOf`, equation by equation.
 use Rattle.forms.specs.Arguments.{wordOf}
 use borrow.Author.Needs.{needs}
 use Rattle.forms.proofs.arguments.word_of.Statement.{statement}
@@ -46,7 +47,11 @@ word-if-requires-4 c κs = search needs
 -- src/arguments.rt:63:1
 returns : tie.Need-returns
 unfolding wordOf
-returns c = rw (← c .before .before .before .before .before .before .before .before .about-of .ensures, ← c .before .before .before .before .before .before .word-if .ensures, ← c .before .before .before .before .word-if2 .ensures, ← c .before .before .word-if3 .ensures) (c .word-if4 .ensures)
+returns c =
+    let at-word-if2 = c .before .before .before .before in
+    let at-word-if = at-word-if2 .before .before in
+    let at-about-of = at-word-if .before .before in
+    rw (← at-about-of .about-of .ensures, ← at-word-if .word-if .ensures, ← at-word-if2 .word-if2 .ensures, ← c .before .before .word-if3 .ensures) (c .word-if4 .ensures)
 
 pub word-of-spec : {M : Type 1} → statement M
 word-of-spec =

@@ -1,3 +1,4 @@
+-- `put_example`: the printed walk, a line feed and how to go on, one after the other (`put-then`).
 use Rattle.text.specs.PutLaws.{put-then}
 use borrow.Author.Needs.{needs}
 use Rattle.forms.proofs.pages.put_example.Statement.{statement}
@@ -30,7 +31,10 @@ same-length c = search needs
 
 -- src/pages.rt:34:1
 returns : tie.Need-returns
-returns c = put-then (put-then (c .before .before .before .before .before .before .before .before .before .before .print-judged .ensures) (c .before .before .before .before .before .before .put-byte .ensures)) (c .before .before .put-usage .ensures)
+returns c =
+    let at-put-byte = c .before .before .before .before .before .before in
+    let at-print-judged = at-put-byte .before .before .before .before in
+    put-then (put-then (at-print-judged .print-judged .ensures) (at-put-byte .put-byte .ensures)) (c .before .before .put-usage .ensures)
 
 pub put-example-spec : {M : Type 1} → statement M
 put-example-spec =

@@ -1,3 +1,4 @@
+-- `put_expected`: line 1 is the start, any other a step.
 use borrow.Author.Tests.{eq-eqb, ne-eqb}
 use borrow.Author.Needs.{needs}
 use Rattle.forms.proofs.pages.put_expected.Statement.{statement}

@@ -1,3 +1,4 @@
+-- `put_line_bad`: four texts one after the other (`put-then`).
 use Rattle.text.specs.PutLaws.{put-then}
 use borrow.Author.Needs.{needs}
 use Rattle.forms.proofs.pages.put_line_bad.Statement.{statement}
@@ -38,7 +39,11 @@ same-length c = search needs
 
 -- src/pages.rt:87:1
 returns : tie.Need-returns
-returns c = put-then (put-then (put-then (c .before .before .before .before .before .before .before .before .before .before .before .before .before .before .before .put-text .ensures) (c .before .before .before .before .before .before .before .before .before .before .before .put-decimal .ensures)) (c .before .before .before .before .before .before .put-text2 .ensures)) (c .before .before .put-expected .ensures)
+returns c =
+    let at-put-text2 = c .before .before .before .before .before .before in
+    let at-put-decimal = at-put-text2 .before .before .before .before .before in
+    let at-put-text = at-put-decimal .before .before .before .before in
+    put-then (put-then (put-then (at-put-text .put-text .ensures) (at-put-decimal .put-decimal .ensures)) (at-put-text2 .put-text2 .ensures)) (c .before .before .put-expected .ensures)
 
 pub put-line-bad-spec : {M : Type 1} → statement M
 put-line-bad-spec =

@@ -1,3 +1,4 @@
+-- `put_no_form`: the error and how to go on, one after the other (`put-then`).
 use Rattle.text.specs.PutLaws.{put-then}
 use borrow.Author.Needs.{needs}
 use Rattle.forms.proofs.pages.put_no_form.Statement.{statement}

@@ -1,3 +1,4 @@
+-- `put_row_returned`: three texts one after the other (`put-then`).
 use Rattle.text.specs.PutLaws.{put-then}
 use borrow.Author.Needs.{needs}
 use Rattle.forms.proofs.pages.put_row_returned.Statement.{statement}
@@ -33,7 +34,10 @@ same-length c = search needs
 
 -- src/pages.rt:50:1
 returns : tie.Need-returns
-returns c = put-then (put-then (c .before .before .before .before .before .before .before .before .before .before .before .put-text .ensures) (c .before .before .before .before .before .before .before .put-decimal .ensures)) (c .before .before .put-text2 .ensures)
+returns c =
+    let at-put-decimal = c .before .before .before .before .before .before .before in
+    let at-put-text = at-put-decimal .before .before .before .before in
+    put-then (put-then (at-put-text .put-text .ensures) (at-put-decimal .put-decimal .ensures)) (c .before .before .put-text2 .ensures)
 
 pub put-row-returned-spec : {M : Type 1} → statement M
 put-row-returned-spec =

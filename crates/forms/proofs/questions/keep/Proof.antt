@@ -1,3 +1,4 @@
+-- `keep`: a store at a place of the list is `set`, and past its end the list stays.
 use Rattle.fields.specs.FieldsLaws.{set-past}
 use mathlib.Core.Path.{sym}
 use borrow.Author.Needs.{needs}

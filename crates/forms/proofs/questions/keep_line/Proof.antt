@@ -1,3 +1,4 @@
+-- `keep_line`: four stores one after the other are the line kept (`line-kept`); a line past those that are kept leaves the list (`line-left`).
 use Rattle.signed.specs.Zed.{back}
 use Rattle.forms.specs.QuestionsLaws.{line-kept, line-left}
 use native.Mathlib.Omega.{arith}
@@ -33,7 +34,15 @@ same-length : tie.Need-same-length
 same-length c = search needs
 
 returns : tie.Need-returns
-returns c = line-kept (c .before .before .before .before .before .before .before .before .before .before .before .before .before .args .k) (c .before .before .before .before .before .before .before .before .before .before .before .before .before .args .a) (c .before .before .before .before .before .before .before .before .before .before .before .before .before .args .b) (c .before .before .before .before .before .before .before .before .before .before .before .before .before .args .c) (c .before .before .before .before .before .before .before .before .before .before .before .before .before .args .d) (c .before .before .before .before .before .before .before .before .before .before .before .before .before .args .numbers .now) (omega (arith, c .before .before .before .before .before .before .before .before .before .before .before .before .if1 .taken)) (rw (back (c .before .before .before .before .before .before .before .before .before .before .before .before .before .fits .a)) at (c .before .before .before .before .before .before .before .before .before .before .keep .ensures)) (rw (back (c .before .before .before .before .before .before .before .before .before .before .before .before .before .fits .b)) at (c .before .before .before .before .before .before .before .keep2 .ensures)) (rw (back (c .before .before .before .before .before .before .before .before .before .before .before .before .before .fits .c)) at (c .before .before .before .before .keep3 .ensures)) (rw (back (c .before .before .before .before .before .before .before .before .before .before .before .before .before .fits .d)) at (c .before .keep4 .ensures))
+returns c =
+    let at-keep3 = c .before .before .before .before in
+    let at-keep2 = at-keep3 .before .before .before in
+    let at-keep = at-keep2 .before .before .before in
+    let at-if1 = at-keep .before .before in
+    let at-start = at-if1 .before in
+    line-kept (at-start .args .k) (at-start .args .a) (at-start .args .b) (at-start .args .c) (at-start .args .d) (at-start .args .numbers .now)
+    (omega (arith, at-if1 .if1 .taken)) (rw (back (at-start .fits .a)) at (at-keep .keep .ensures)) (rw (back (at-start .fits .b)) at (at-keep2 .keep2 .ensures))
+    (rw (back (at-start .fits .c)) at (at-keep3 .keep3 .ensures)) (rw (back (at-start .fits .d)) at (c .before .keep4 .ensures))
 
 returns-2 : tie.Need-returns-2
 returns-2 c = line-left (c .before .args .k) (c .before .args .a) (c .before .args .b) (c .before .args .c) (c .before .args .d) (c .before .args .numbers .now) (omega (arith, c .if1 .left))

@@ -1,3 +1,4 @@
+-- `put_page`: the charge, the temperature and the steps are those of the list's first places, so the console's page is the question's.
 use Prim.Native.Nat.{_*_, _-_, min}
 use mathlib.Core.Path.{_≡_}
 use native.Mathlib.Omega.{arith}
@@ -43,7 +44,8 @@ returns : tie.Need-returns
 returns c =
     let s = c .before .before .before .before .before .before .before .before .before .before in
     let f : SFits w64 (getD (s .args .numbers .now) 3 (pos 0)) = search needs in
-    let e : stepNumbers * c .before .before .before .before .before .kept .result - stepNumbers ≡ stepNumbers * min (s .args .lines) keptLines - 4 = omega (arith, c .before .before .before .before .before .kept .ensures .1) in
+    let e : stepNumbers * c .before .before .before .before .before .kept .result - stepNumbers ≡ stepNumbers * min (s .args .lines) keptLines - 4 =
+    omega (arith, c .before .before .before .before .before .kept .ensures .1) in
     rw (c .before .before .before .before .before .before .before .charge-in .ensures, back f, e) at (c .before .before .print-judged .ensures)
 
 pub put-page-spec : {M : Type 1} → statement M

@@ -1,3 +1,4 @@
+-- `take`: a good question goes on with its next line; a bad one stays as it is.
 use mathlib.Core.Path.{refl}
 use borrow.Author.Needs.{needs}
 use Rattle.forms.proofs.questions.take.Statement.{statement}

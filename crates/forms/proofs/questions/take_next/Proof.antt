@@ -1,3 +1,4 @@
+-- `take_next`: the line by whether it holds a carriage return and whether it is four numbers; the numbers are kept where it is.
 use mir.Syntax.{w64}
 use mir.Val.{SFits}
 use Rattle.signed.specs.Zed.{back}
@@ -60,19 +61,27 @@ same-length c = search needs
 -- src/questions.rt:57:1
 returns-2 : tie.Need-returns-2
 returns-2 c =
-    let h : holdsReturn (c .before .before .before .before .before .before .before .before .before .before .before .args .line .now) ≡ false = sym (c .before .before .before .before .before .before .before .before .before .holds-return .ensures) ∙ c .before .before .before .before .before .before .before .before .if1 .left in
-    let f = sym (ap fourOf (whole-line (c .before .before .before .before .before .before .before .before .before .before .before .args .line .now))) ∙ (sym (c .before .before .before .before .before .before .before .read-four .ensures) ∙ c .before .before .before .before .before .a .given .1) in
-    let f0 : SFits w64 (c .before .before .before .before .before .a .given .0 .0) = search needs in
-    let f1 : SFits w64 (c .before .before .before .before .before .a .given .0 .1 .0) = search needs in
-    let f2 : SFits w64 (c .before .before .before .before .before .a .given .0 .1 .1 .0) = search needs in
-    let f3 : SFits w64 (c .before .before .before .before .before .a .given .0 .1 .1 .1 .0) = search needs in
+    let at-a = c .before .before .before .before .before in
+    let h : holdsReturn (c .before .before .before .before .before .before .before .before .before .before .before .args .line .now) ≡ false =
+    sym (c .before .before .before .before .before .before .before .before .before .holds-return .ensures) ∙ c .before .before .before .before .before .before .before .before .if1 .left in
+    let f =
+    sym (ap fourOf (whole-line (c .before .before .before .before .before .before .before .before .before .before .before .args .line .now)))
+    ∙ (sym (c .before .before .before .before .before .before .before .read-four .ensures) ∙ at-a .a .given .1) in
+    let f0 : SFits w64 (at-a .a .given .0 .0) = search needs in
+    let f1 : SFits w64 (at-a .a .given .0 .1 .0) = search needs in
+    let f2 : SFits w64 (at-a .a .given .0 .1 .1 .0) = search needs in
+    let f3 : SFits w64 (at-a .a .given .0 .1 .1 .1 .0) = search needs in
     (rw (h, f, c .one-more2 .ensures) refl, rw (h, f) (rw (back f0, back f1, back f2, back f3) at (c .before .before .keep-line .ensures)))
 
 -- src/questions.rt:57:1
 returns-3 : tie.Need-returns-3
 returns-3 c =
-    let h : holdsReturn (c .before .before .before .before .before .before .before .args .line .now) ≡ false = sym (c .before .before .before .before .before .holds-return .ensures) ∙ c .before .before .before .before .if1 .left in
-    let f = sym (ap fourOf (whole-line (c .before .before .before .before .before .before .before .args .line .now))) ∙ (sym (c .before .before .before .read-four .ensures) ∙ c .before .enum-told .given .1) in
+    let at-read-four = c .before .before .before in
+    let at-if1 = at-read-four .before in
+    let at-holds-return = at-if1 .before in
+    let at-start = at-holds-return .before .before in
+    let h : holdsReturn (at-start .args .line .now) ≡ false = sym (at-holds-return .holds-return .ensures) ∙ at-if1 .if1 .left in
+    let f = sym (ap fourOf (whole-line (at-start .args .line .now))) ∙ (sym (at-read-four .read-four .ensures) ∙ c .before .enum-told .given .1) in
     (rw (h, f, c .one-more3 .ensures) refl, rw (h, f) refl)
 
 pub take-next-spec : {M : Type 1} → statement M

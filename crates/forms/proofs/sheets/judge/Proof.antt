@@ -1,3 +1,4 @@
+-- `judge`: the reader's answer on the first n bytes, and where it is good the judge's on the list that was read.
 use mathlib.Core.Path.{refl}
 use native.Mathlib.Omega.{arith}
 use lib.ListN.{length-take}
@@ -24,13 +25,17 @@ same-length : tie.Need-same-length
 same-length c = search needs
 
 returns : tie.Need-returns
-returns c = record { read = c .before .before .before .before .before .before .read-sheet .result; reading = c .before .before .before .before .before .before .read-sheet .ensures; judged = rw (c .before .before .enum-told .given .1) (c .judge-sheet .ensures) }
+returns c =
+    let at-read-sheet = c .before .before .before .before .before .before in
+    record { read = at-read-sheet .read-sheet .result; reading = at-read-sheet .read-sheet .ensures; judged = rw (c .before .before .enum-told .given .1) (c .judge-sheet .ensures) }
 
 same-length-2 : tie.Need-same-length-2
 same-length-2 c = search needs
 
 returns-2 : tie.Need-returns-2
-returns-2 c = record { read = c .before .before .before .before .before .read-sheet .result; reading = c .before .before .before .before .before .read-sheet .ensures; judged = rw (c .before .refusal .given .1) refl }
+returns-2 c =
+    let at-read-sheet = c .before .before .before .before .before in
+    record { read = at-read-sheet .read-sheet .result; reading = at-read-sheet .read-sheet .ensures; judged = rw (c .before .refusal .given .1) refl }
 
 pub judge-spec : {M : Type 1} → statement M
 judge-spec =

@@ -1,3 +1,4 @@
+-- `put_word`: `accepted` or the refusal, by the verdict.
 use borrow.Author.Needs.{needs}
 use Rattle.forms.proofs.sheets.put_word.Statement.{statement}
 use Rattle.forms.proofs.sheets.put_word.Tie as tie

@@ -1,3 +1,4 @@
+-- `report`: the verdict of the bytes, and its words with a line feed (`put-then`).
 use Rattle.text.specs.PutLaws.{put-then}
 use borrow.Author.Needs.{needs}
 use Rattle.forms.proofs.sheets.report.Statement.{statement}
@@ -30,7 +31,10 @@ same-length-2 c = search needs
 
 -- src/sheets.rt:37:1
 returns : tie.Need-returns
-returns c = record { judged = c .before .before .before .before .before .before .before .before .before .before .judge .ensures; line = put-then (c .before .before .before .before .before .before .put-word .ensures) (c .before .before .put-byte .ensures) }
+returns c =
+    let at-put-word = c .before .before .before .before .before .before in
+    let at-judge = at-put-word .before .before .before .before in
+    record { judged = at-judge .judge .ensures; line = put-then (at-put-word .put-word .ensures) (c .before .before .put-byte .ensures) }
 
 pub report-spec : {M : Type 1} → statement M
 report-spec =

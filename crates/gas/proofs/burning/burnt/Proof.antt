@@ -1,3 +1,4 @@
+-- `burnt`: in a lean charge the air has the oxygen that the fuel uses, so what is left of it is a number without sign.
 use borrow.Author.Needs.{needs}
 use mathlib.Core.Path.{refl, ap}
 use Prim.Native.Nat.{_*_, _+_}
@@ -43,10 +44,12 @@ mul-t6 c = search needs
 returns : tie.Need-returns
 unfolding products massesOf
 returns c =
-    let u : SFits w64 (c .before .before .before .before .before .weigh .result .used) = search needs in
+    let at-weigh = c .before .before .before .before .before in
+    let u : SFits w64 (at-weigh .weigh .result .used) = search needs in
     let o : SFits w64 (c .before .before .before .before .oxygen .result) = search needs in
-    let e = rw (back u, back o, c .before .before .before .before .before .weigh .ensures, c .before .before .before .before .oxygen .ensures) at (c .before .before .gap .ensures) in
-    rw (c .before .before .before .before .before .weigh .ensures, ap up e) refl
+    let at-oxygen = c .before .before .before .before in
+    let e = rw (back u, back o, at-weigh .weigh .ensures, at-oxygen .oxygen .ensures) at (c .before .before .gap .ensures) in
+    rw (at-weigh .weigh .ensures, ap up e) refl
 
 pub burnt-spec : {M : Type 1} → statement M
 burnt-spec = tie.close (tie.spec weigh-requires oxygen-requires gap-requires mul-t5 mul-t6 returns)

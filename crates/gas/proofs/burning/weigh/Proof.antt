@@ -1,3 +1,4 @@
+-- `weigh`: within the limits on air and atoms every product and sum of the atomic weights fits: `massesOf`.
 use borrow.Author.Needs.{needs}
 use mathlib.Core.Path.{refl}
 use mir.Syntax.{w64}

@@ -1,3 +1,4 @@
+-- `along`: the heat does not fall to the next kelvin, and a thousandth of the rise, f times, added to it still fits (proofs/Lines.antt).
 use borrow.Author.Needs.{needs}
 use mathlib.Core.Path.{_≡_, sym, _∙_}
 use Prim.Native.Nat.{_/_}
@@ -33,8 +34,9 @@ of-u64-requires c κs = let s = c .before .before .before in rw (slope c) (omega
 
 add-t8 : tie.Need-add-t8
 add-t8 c =
-    let s = c .before .before .before .before .before .before in
-    rw (back (here-fits s), back (part-fits (c .before .before)), c .before .before .of-u64 .ensures, slope (c .before .before .before)) (along-fits (s .pre .0) (s .pre .1) (here-fits s) (next-fits s))
+    let at-slope = c .before .before .before in
+    let s = at-slope .before .before .before in
+    rw (back (here-fits s), back (part-fits (c .before .before)), c .before .before .of-u64 .ensures, slope at-slope) (along-fits (s .pre .0) (s .pre .1) (here-fits s) (next-fits s))
 
 returns : tie.Need-returns
 returns c =

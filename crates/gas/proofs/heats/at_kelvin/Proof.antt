@@ -1,3 +1,4 @@
+-- `at_kelvin`: at a whole kelvin the four heats per pound are the rows' own (`heat-whole`), small by `H-most` and `accepted-limit`.
 use borrow.Author.Needs.{needs}
 use mathlib.Core.Path.{_≡_, sym, ap, _∙_}
 use mathlib.Core.List.{List}

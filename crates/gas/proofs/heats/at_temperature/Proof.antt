@@ -1,3 +1,4 @@
+-- `at_temperature`: at the last temperature the last row alone; else on the line from the kelvin below to the next.
 use borrow.Author.Needs.{needs}
 use mathlib.Core.Path.{refl, sym, ap, _∙_}
 use Prim.Native.Nat.{_+_, _*_, _/_, _%_, _<_}
@@ -44,17 +45,21 @@ at-kelvin-requires-3 c κs = (c .before .before .before .before .before .pre .0,
 
 along-requires : tie.Need-along-requires
 along-requires c κs =
-    let m = mk (c .before .before .before) in
-    (rw (c .before .at-kelvin2 .ensures, c .at-kelvin3 .ensures) (heats-rise (c .before .before .before .before .before .before .pre .0) _ (omega (arith, m .least)) (omega (arith, not-last (c .before .before)))), omega arith)
+    let at-mk = c .before .before .before in
+    let at-start = at-mk .before .before .before in
+    let m = mk at-mk in
+    (rw (c .before .at-kelvin2 .ensures, c .at-kelvin3 .ensures) (heats-rise (at-start .pre .0) _ (omega (arith, m .least)) (omega (arith, not-last (c .before .before)))), omega arith)
 
 returns-2 : tie.Need-returns-2
 returns-2 c =
-    let s = c .before .before .before .before .before .before .before in
-    let n = c .before .before .before .before .to-u64 .result in
-    let m = mk (c .before .before .before .before) in
+    let at-not-last = c .before .before .before in
+    let at-to-u64 = at-not-last .before in
+    let s = at-to-u64 .before .before .before in
+    let n = at-to-u64 .to-u64 .result in
+    let m = mk at-to-u64 in
     c .along .ensures
     ∙ rw (c .before .before .at-kelvin2 .ensures, c .before .at-kelvin3 .ensures)
-    (along-heat (s .pre .0) (n / 1000) (omega (arith, m .least)) (omega (arith, not-last (c .before .before .before))) (n % 1000) (omega arith))
+    (along-heat (s .pre .0) (n / 1000) (omega (arith, m .least)) (omega (arith, not-last at-not-last)) (n % 1000) (omega arith))
     ∙ ap (heatOf (s .args .gas) (s .args .sheet .now)) {x = 1000 * (n / 1000) + n % 1000} {y = n} (omega arith)
     ∙ ap (heatOf (s .args .gas) (s .args .sheet .now)) (m .number)
 

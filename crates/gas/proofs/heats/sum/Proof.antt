@@ -1,3 +1,4 @@
+-- `sum`: what the masses add and what the used oxygen takes away both fit (`added-most`, `taken-most`), and their difference is the heat (`sum-diff`).
 use borrow.Author.Needs.{needs}
 use mathlib.Core.Path.{_∙_}
 use native.Mathlib.Omega.{arith}
@@ -27,13 +28,19 @@ add-plus : tie.Need-add-plus
 add-plus c = omega (arith, added-most (c .before .before .pre .0) (c .before .before .pre .1))
 
 mul-plus-3 : tie.Need-mul-plus-3
-mul-plus-3 c = omega (arith, added-most (c .before .before .before .pre .0) (c .before .before .before .pre .1))
+mul-plus-3 c =
+    let at-start = c .before .before .before in
+    omega (arith, added-most (at-start .pre .0) (at-start .pre .1))
 
 add-plus-2 : tie.Need-add-plus-2
-add-plus-2 c = omega (arith, added-most (c .before .before .before .pre .0) (c .before .before .before .pre .1))
+add-plus-2 c =
+    let at-start = c .before .before .before in
+    omega (arith, added-most (at-start .pre .0) (at-start .pre .1))
 
 of-u64-requires : tie.Need-of-u64-requires
-of-u64-requires c κs = omega (arith, added-most (c .before .before .before .pre .0) (c .before .before .before .pre .1))
+of-u64-requires c κs =
+    let at-start = c .before .before .before in
+    omega (arith, added-most (at-start .pre .0) (at-start .pre .1))
 
 of-u64-requires-2 : tie.Need-of-u64-requires-2
 of-u64-requires-2 c κs = search needs
@@ -46,14 +53,24 @@ mul-t13 c =
 
 sub-t14 : tie.Need-sub-t14
 sub-t14 c =
-    let s = c .before .before .before .before .before .before .before in
-    rw (back (mul-t13 c), back (used-fits s), back (o2-fits (c .before .before)), back (plus-fits (c .before .before .before)), c .before .before .of-u642 .ensures, c .before .before .before .of-u64 .ensures, sum-diff (s .args .gas) (s .args .air) (s .args .o2) (s .args .co2) (s .args .h2o))
+    let at-of-u64 = c .before .before .before in
+    let s = at-of-u64 .before .before .before .before in
+    rw (
+      back (mul-t13 c),
+      back (used-fits s),
+      back (o2-fits (c .before .before)),
+      back (plus-fits at-of-u64),
+      c .before .before .of-u642 .ensures,
+      at-of-u64 .of-u64 .ensures,
+      sum-diff (s .args .gas) (s .args .air) (s .args .o2) (s .args .co2) (s .args .h2o),
+    )
     (fits-from w64 (sum-parts (s .pre .0) (s .pre .1)) (omega (arith, added-most (s .pre .0) (s .pre .1))) (omega (arith, taken-most (s .pre .0) (s .pre .1))))
 
 returns : tie.Need-returns
 returns c =
-    let s = c .before .before .before .before .before .before .before in
-    back (sub-t14 c) ∙ rw (back (mul-t13 c), back (used-fits s), back (o2-fits (c .before .before)), back (plus-fits (c .before .before .before)), c .before .before .of-u642 .ensures, c .before .before .before .of-u64 .ensures)
+    let at-of-u64 = c .before .before .before in
+    let s = at-of-u64 .before .before .before .before in
+    back (sub-t14 c) ∙ rw (back (mul-t13 c), back (used-fits s), back (o2-fits (c .before .before)), back (plus-fits at-of-u64), c .before .before .of-u642 .ensures, at-of-u64 .of-u64 .ensures)
     (sum-diff (s .args .gas) (s .args .air) (s .args .o2) (s .args .co2) (s .args .h2o))
 
 pub sum-spec : {M : Type 1} → statement M

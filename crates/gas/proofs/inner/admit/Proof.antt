@@ -1,3 +1,4 @@
+-- `admit`: refusal 4 before 5; a charge that passes refusal 4 is within its limits (`limits-of`), so it can be weighed for refusal 5.
 use borrow.Author.Needs.{needs}
 use mathlib.Core.Path.{_≡_, refl, sym, ap, _∙_}
 use mathlib.Core.Bool.{Bool, not}
@@ -25,10 +26,16 @@ lean-requires : tie.Need-lean-requires
 lean-requires c κs = rw (c .gas-of .ensures) (limits-of document01 _ (sym (c .before .before .beyond .ensures) ∙ c .before .if1 .left))
 
 returns-2 : tie.Need-returns-2
-returns-2 c = rw (sym (c .before .before .before .before .beyond .ensures) ∙ c .before .before .before .if1 .left, leaned (c .before .lean .ensures) (c .before .before .gas-of .ensures) (c .if2 .taken)) refl
+returns-2 c =
+    let at-if1 = c .before .before .before in
+    let at-beyond = at-if1 .before in
+    rw (sym (at-beyond .beyond .ensures) ∙ at-if1 .if1 .left, leaned (c .before .lean .ensures) (c .before .before .gas-of .ensures) (c .if2 .taken)) refl
 
 returns-3 : tie.Need-returns-3
-returns-3 c = rw (sym (c .before .before .before .before .beyond .ensures) ∙ c .before .before .before .if1 .left, leaned (c .before .lean .ensures) (c .before .before .gas-of .ensures) (c .if2 .left)) (ap gives (c .before .before .gas-of .ensures))
+returns-3 c =
+    let at-if1 = c .before .before .before in
+    let at-beyond = at-if1 .before in
+    rw (sym (at-beyond .beyond .ensures) ∙ at-if1 .if1 .left, leaned (c .before .lean .ensures) (c .before .before .gas-of .ensures) (c .if2 .left)) (ap gives (c .before .before .gas-of .ensures))
 
 pub admit-spec : {M : Type 1} → statement M
 admit-spec =

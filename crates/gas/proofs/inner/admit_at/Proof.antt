@@ -1,3 +1,4 @@
+-- `admit_at`: the charge's own refusals first, then the temperature's: a refusal of the first stops (`stopped`), else the second tells (`passed`).
 use borrow.Author.Needs.{needs}
 use mathlib.Core.Path.{_≡_, refl, sym, ap, _∙_}
 use Rattle.refusal.specs.Refusals.{gives, first}
@@ -23,7 +24,11 @@ covered-requires : tie.Need-covered-requires
 covered-requires c κs = search needs
 
 returns : tie.Need-returns
-returns c = stopped-first (chargeLines document01 (c .before .before .before .before .args .charge)) (temperatureLines (c .before .before .before .before .args .t .0)) _ _ (c .before .r .given .0 .0) (ap paperGas (sym (c .before .r .given .1)) ∙ c .before .before .before .admit .ensures)
+returns c =
+    let at-admit = c .before .before .before in
+    let at-start = at-admit .before in
+    stopped-first (chargeLines document01 (at-start .args .charge)) (temperatureLines (at-start .args .t .0)) _ _ (c .before .r .given .0 .0)
+    (ap paperGas (sym (c .before .r .given .1)) ∙ at-admit .admit .ensures)
 
 returns-2 : tie.Need-returns-2
 returns-2 c =

@@ -1,3 +1,4 @@
+-- `beyond`: air, carbon and hydrogen are tried one after the other, and one outside its limit decides.
 use borrow.Author.Needs.{needs}
 use mathlib.Core.Path.{_≡_, refl, ap}
 use mathlib.Core.Bool.{Bool, not}

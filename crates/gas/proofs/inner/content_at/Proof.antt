@@ -1,3 +1,4 @@
+-- `content_at`: the heat there less the heat at 15 °C, a temperature of the table; the difference fits (`content-fits`).
 use borrow.Author.Needs.{needs}
 use mathlib.Core.Path.{_≡_, refl, _∙_}
 use mathlib.Core.Bool.{true}
@@ -21,7 +22,9 @@ heat-at-requires-2 c κs = search needs
 less-requires : tie.Need-less-requires
 less-requires c κs =
     let s = c .before .before .before in
-    rw (c .heat-at2 .ensures, c .before .heat-at .ensures) (let i = in-range (pos coldest) (pos hottest) (s .args .t .0) (s .pre .3) in content-fits (s .pre .0) (s .pre .1) (up (s .args .t .0)) (omega (zed, apart (s .args .t .0))) (omega (zed, apart (s .args .t .0))))
+    rw (c .heat-at2 .ensures, c .before .heat-at .ensures)
+    (let i = in-range (pos coldest) (pos hottest) (s .args .t .0) (s .pre .3) in content-fits (s .pre .0) (s .pre .1) (up (s .args .t .0))
+    (omega (zed, apart (s .args .t .0))) (omega (zed, apart (s .args .t .0))))
 
 returns : tie.Need-returns
 returns c = c .less .ensures ∙ rw (c .before .heat-at2 .ensures, c .before .before .heat-at .ensures) refl

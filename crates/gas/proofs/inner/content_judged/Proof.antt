@@ -1,3 +1,4 @@
+-- `content_judged`: past refusals 4, 5 and 6 the gas burns and the table covers the temperature (`readable-of`), so its content is told (`told-through`).
 use borrow.Author.Needs.{needs}
 use mathlib.Core.Path.{_≡_, sym, ap, _∙_}
 use mathlib.Core.List.{[]}
@@ -13,7 +14,8 @@ use Rattle.gas.proofs.inner.content_judged.Statement.{statement}
 use Rattle.gas.proofs.inner.content_judged.Tie as tie
 
 -- past the sheet, what the charge and the temperature tell is the whole order's answer
-told : (c : tie.After-admit-at) → let s = c .before .before in paperGas (c .admit-at .result) ≡ first (heatOrder document01 (s .args .charge) (s .args .t .0) (s .args .sheet .now)) (gasOf (s .args .charge))
+told : (c : tie.After-admit-at) → let s = c .before .before in
+    paperGas (c .admit-at .result) ≡ first (heatOrder document01 (s .args .charge) (s .args .t .0) (s .args .sheet .now)) (gasOf (s .args .charge))
 told c = let s = c .before .before in past-heat (s .pre .0) document01 (s .args .charge) (s .args .t .0) (c .admit-at .ensures)
 
 admit-at-requires : tie.Need-admit-at-requires
@@ -33,13 +35,17 @@ enum-known-r c = search needs
 
 returns : tie.Need-returns
 returns c =
-    let s = c .before .before .before .before .before .before in
-    told-through (heatOrder document01 (s .args .charge) (s .args .t .0) (s .args .sheet .now)) (gasOf (s .args .charge)) (λ (g : Gas). contentAbove15 document01 (s .args .sheet .now) g (up (s .args .t .0))) (ap paperGas (sym (c .before .before .gas .given .1)) ∙ told (c .before .before .before .before)) (c .content-at .ensures)
+    let at-told = c .before .before .before .before in
+    let s = at-told .before .before in
+    told-through (heatOrder document01 (s .args .charge) (s .args .t .0) (s .args .sheet .now)) (gasOf (s .args .charge))
+    (λ (g : Gas). contentAbove15 document01 (s .args .sheet .now) g (up (s .args .t .0))) (ap paperGas (sym (c .before .before .gas .given .1)) ∙ told at-told)
+    (c .content-at .ensures)
 
 returns-2 : tie.Need-returns-2
 returns-2 c =
-    let s = c .before .before .before .before .before in
-    stopped-first (heatOrder document01 (s .args .charge) (s .args .t .0) (s .args .sheet .now)) [] _ _ (c .before .r .given .0 .0) (ap paperGas (sym (c .before .r .given .1)) ∙ told (c .before .before .before))
+    let at-told = c .before .before .before in
+    let s = at-told .before .before in
+    stopped-first (heatOrder document01 (s .args .charge) (s .args .t .0) (s .args .sheet .now)) [] _ _ (c .before .r .given .0 .0) (ap paperGas (sym (c .before .r .given .1)) ∙ told at-told)
 
 pub content-judged-spec : {M : Type 1} → statement M
 content-judged-spec = tie.close (tie.spec admit-at-requires enum-known-gas content-at-requires enum-known-r returns returns-2)

@@ -1,3 +1,4 @@
+-- `find`: below the heat at the coldest row is refusal 8, above that at the hottest 9 (`unreached-told`); between them the search answers (`reached-told`).
 use borrow.Author.Needs.{needs}
 use mathlib.Core.Bool.{Bool}
 use mathlib.Core.Path.{_≡_, refl}
@@ -38,7 +39,8 @@ at-200 c e =
     rw (c .at-kelvin .ensures, c .before .weigh .ensures) at (lt-read (target-fits s) (first-fits c) e)
 
 -- and against that at 2,000 K
-at-2000 : (c : tie.After-at-kelvin2) {t : Bool} → let s = c .before .before .before .before .before .before .before .before .before .before in ltZ (toZ w64 (ofZ w64 (c .at-kelvin2 .result .0))) (toZ w64 (ofZ w64 (s .args .target .0))) ≡ t
+at-2000 : (c : tie.After-at-kelvin2) {t : Bool} → let s = c .before .before .before .before .before .before .before .before .before .before in
+    ltZ (toZ w64 (ofZ w64 (c .at-kelvin2 .result .0))) (toZ w64 (ofZ w64 (s .args .target .0))) ≡ t
     → ltZ (gasHeat document01 (s .args .sheet .now) (s .args .gas) hottest) (s .args .target .0) ≡ t
 at-2000 c e =
     let s = c .before .before .before .before .before .before .before .before .before .before in
@@ -57,20 +59,37 @@ at-kelvin-requires-2 : tie.Need-at-kelvin-requires-2
 at-kelvin-requires-2 c κs = (masses-ready (c .before .before .before .before .before .before), omega arith, omega arith)
 
 returns-2 : tie.Need-returns-2
-returns-2 c = unreached-told _ _ _ (Refused (Plain 9)) (after (at-200 (c .before .before .before .before .before .before .before .before .before .before .before) (c .before .before .before .before .before .before .if1 .left)) (here (at-2000 (c .before .before .before .before .before) (c .if2 .taken)))) refl
+returns-2 c =
+    let after-2000 = c .before .before .before .before .before in
+    let at-if1 = after-2000 .before in
+    let after-200 = at-if1 .before .before .before .before .before in
+    unreached-told _ _ _ (Refused (Plain 9)) (after (at-200 after-200 (at-if1 .if1 .left)) (here (at-2000 after-2000 (c .if2 .taken)))) refl
 
 reached-requires : tie.Need-reached-requires
 reached-requires c κs =
-    let s = c .before .before .before .before .before .before .before .before .before .before .before .before .before .before .before .before in (
-      (masses-ready (c .before .before .before .before .before .before .before .before .before .before .before .before .before), s .pre .3, c .before .before .before .before .before .before .at-kelvin2 .ensures),
-      (rw (← c .before .before .before .before .before .before .before .before .before .before .before .before .at-kelvin .ensures) (omega (zed, lt-read (target-fits s) (first-fits (c .before .before .before .before .before .before .before .before .before .before .before .before)) (c .before .before .before .before .before .before .before .if1 .left))), omega (zed, lt-read (last-fits (c .before .before .before .before .before .before)) (target-fits s) (c .before .if2 .left))),
+    let after-kelvin2 = c .before .before .before .before .before .before in
+    let at-if1 = after-kelvin2 .before in
+    let after-kelvin = at-if1 .before .before .before .before .before in
+    let at-masses-ready = after-kelvin .before in
+    let s = at-masses-ready .before .before .before in (
+      (masses-ready at-masses-ready, s .pre .3, after-kelvin2 .at-kelvin2 .ensures),
+      (
+        rw (← after-kelvin .at-kelvin .ensures) (omega (zed, lt-read (target-fits s) (first-fits after-kelvin) (at-if1 .if1 .left))),
+        omega (zed, lt-read (last-fits after-kelvin2) (target-fits s) (c .before .if2 .left)),
+      ),
     )
 
 same-length : tie.Need-same-length
 same-length c = search needs
 
 returns-3 : tie.Need-returns-3
-returns-3 c = reached-told _ _ _ (clear (at-200 (c .before .before .before .before .before .before .before .before .before .before .before .before .before .before .before) (c .before .before .before .before .before .before .before .before .before .before .if1 .left)) (clear (at-2000 (c .before .before .before .before .before .before .before .before .before) (c .before .before .before .before .if2 .left)) none)) (rw (c .before .before .before .before .before .before .before .before .before .before .before .before .before .before .before .before .weigh .ensures) at (c .before .before .reached .ensures))
+returns-3 c =
+    let at-if2 = c .before .before .before .before in
+    let after-2000 = at-if2 .before .before .before .before .before in
+    let at-if1 = after-2000 .before in
+    let after-200 = at-if1 .before .before .before .before .before in
+    let at-weigh = after-200 .before in
+    reached-told _ _ _ (clear (at-200 after-200 (at-if1 .if1 .left)) (clear (at-2000 after-2000 (at-if2 .if2 .left)) none)) (rw (at-weigh .weigh .ensures) at (c .before .before .reached .ensures))
 
 pub find-spec : {M : Type 1} → statement M
 find-spec =

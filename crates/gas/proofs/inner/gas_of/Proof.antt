@@ -1,3 +1,4 @@
+-- `gas_of`: in a charge within its limits no number is below zero (`inside-of`), so each is the same without a sign.
 use borrow.Author.Needs.{needs}
 use mathlib.Core.Path.{ap, _∙_}
 use mir.Syntax.{w64}

@@ -1,3 +1,4 @@
+-- `heat_at`: a gas that burns has masses that the heats can be read for: `gasHeat` is the heat of these masses.
 use borrow.Author.Needs.{needs}
 use mathlib.Core.Path.{refl, _∙_}
 use Rattle.gas.proofs.Lines.{ready}

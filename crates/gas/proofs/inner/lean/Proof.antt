@@ -1,3 +1,4 @@
+-- `lean`: the oxygen that the fuel uses against the oxygen of the air, both as the paper weighs them.
 use borrow.Author.Needs.{needs}
 use mathlib.Core.Path.{refl}
 use mir.Syntax.{w64}
@@ -17,9 +18,10 @@ oxygen-requires c κs = search needs
 returns : tie.Need-returns
 unfolding lean massesOf
 returns c =
-    let u : SFits w64 (c .before .before .before .weigh .result .used) = search needs in
+    let at-weigh = c .before .before .before in
+    let u : SFits w64 (at-weigh .weigh .result .used) = search needs in
     let o : SFits w64 (c .before .before .oxygen .result) = search needs in
-    rw (back u, back o, c .before .before .before .weigh .ensures, c .before .before .oxygen .ensures) refl
+    rw (back u, back o, at-weigh .weigh .ensures, c .before .before .oxygen .ensures) refl
 
 pub lean-spec : {M : Type 1} → statement M
 lean-spec = tie.close (tie.spec weigh-requires oxygen-requires returns)

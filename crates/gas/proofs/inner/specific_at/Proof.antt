@@ -1,3 +1,4 @@
+-- `specific_at`: the content over the total mass, which is not zero, the fraction dropped toward zero.
 use borrow.Author.Needs.{needs}
 use mathlib.Core.Path.{refl, _∙_}
 use mir.Val.{SFits}
@@ -19,9 +20,10 @@ quotient-requires c κs = search needs
 returns : tie.Need-returns
 unfolding specificContent
 returns c =
-    let f : SFits w64 (c .before .before .before .content-at .result .0) = search needs in
+    let at-content-at = c .before .before .before in
+    let f : SFits w64 (at-content-at .content-at .result .0) = search needs in
     let q : SFits w64 (c .quotient .result) = search needs in
-    back q ∙ c .quotient .ensures ∙ rw (back f, c .before .before .before .content-at .ensures, c .before .before .total-mass .ensures) refl
+    back q ∙ c .quotient .ensures ∙ rw (back f, at-content-at .content-at .ensures, c .before .before .total-mass .ensures) refl
 
 pub specific-at-spec : {M : Type 1} → statement M
 specific-at-spec =

@@ -41,23 +41,32 @@ heat-fits t c = search needs
 
 -- the heat at the middle
 heat-is : (t : ℕ) (c : halve-lts.After-at-kelvin (at-kelvin-reads.Asked, at-kelvin-reads.Learnt, halve-below t, halve.Post) (halve-at t) halve.Post)
-    → let s = c .before .before .before in c .at-kelvin .result .0 ≡ heatOf (masses (s .args .mass) (s .args .used) (s .args .co2) (s .args .h2o)) (s .args .sheet .now .now) (1000 * middle (s .args .lo) (s .args .hi))
+    → let s = c .before .before .before in
+    c .at-kelvin .result .0 ≡ heatOf (masses (s .args .mass) (s .args .used) (s .args .co2) (s .args .h2o)) (s .args .sheet .now .now) (1000 * middle (s .args .lo) (s .args .hi))
 heat-is t c = rw (back (used-fits t (c .before .before .before))) at (c .at-kelvin .ensures)
 
 -- the half that is kept: the upper where that heat is at most the target, else the lower
 look-upper : (t : ℕ) (c : halve-lts.Then2 (at-kelvin-reads.Asked, at-kelvin-reads.Learnt, halve-below t, halve.Post) (halve-at t) halve.Post)
-    → let s = c .before .before .before .before .before .before .before .before in Turn (heatFits (masses (s .args .mass) (s .args .used) (s .args .co2) (s .args .h2o)) (s .args .sheet .now .now) (s .args .target .0)) (s .args .lo) (s .args .hi) (middle (s .args .lo) (s .args .hi)) (s .args .hi)
+    → let s = c .before .before .before .before .before .before .before .before in
+    Turn (heatFits (masses (s .args .mass) (s .args .used) (s .args .co2) (s .args .h2o)) (s .args .sheet .now .now) (s .args .target .0)) (s .args .lo)
+    (s .args .hi) (middle (s .args .lo) (s .args .hi)) (s .args .hi)
 look-upper t c =
-    let s = c .before .before .before .before .before .before .before .before in
+    let at-if1 = c .before .before .before .before .before .before .before in
+    let s = at-if1 .before in
     let k = c .before .before .before .before .before in
-    upper (masses (s .args .mass) (s .args .used) (s .args .co2) (s .args .h2o)) (s .args .sheet .now .now) (s .args .target .0) (c .before .before .before .before .before .before .before .if1 .left) (heat-is t k) (le-read (heat-fits t k) (target-fits t s) (c .if2 .taken))
+    upper (masses (s .args .mass) (s .args .used) (s .args .co2) (s .args .h2o)) (s .args .sheet .now .now) (s .args .target .0) (at-if1 .if1 .left)
+    (heat-is t k) (le-read (heat-fits t k) (target-fits t s) (c .if2 .taken))
 
 look-lower : (t : ℕ) (c : halve-lts.Else2 (at-kelvin-reads.Asked, at-kelvin-reads.Learnt, halve-below t, halve.Post) (halve-at t) halve.Post)
-    → let s = c .before .before .before .before .before .before .before .before in Turn (heatFits (masses (s .args .mass) (s .args .used) (s .args .co2) (s .args .h2o)) (s .args .sheet .now .now) (s .args .target .0)) (s .args .lo) (s .args .hi) (s .args .lo) (middle (s .args .lo) (s .args .hi))
+    → let s = c .before .before .before .before .before .before .before .before in
+    Turn (heatFits (masses (s .args .mass) (s .args .used) (s .args .co2) (s .args .h2o)) (s .args .sheet .now .now) (s .args .target .0)) (s .args .lo)
+    (s .args .hi) (s .args .lo) (middle (s .args .lo) (s .args .hi))
 look-lower t c =
-    let s = c .before .before .before .before .before .before .before .before in
+    let at-if1 = c .before .before .before .before .before .before .before in
+    let s = at-if1 .before in
     let k = c .before .before .before .before .before in
-    lower (masses (s .args .mass) (s .args .used) (s .args .co2) (s .args .h2o)) (s .args .sheet .now .now) (s .args .target .0) (c .before .before .before .before .before .before .before .if1 .left) (heat-is t k) (le-read (heat-fits t k) (target-fits t s) (c .if2 .left))
+    lower (masses (s .args .mass) (s .args .used) (s .args .co2) (s .args .h2o)) (s .args .sheet .now .now) (s .args .target .0) (at-if1 .if1 .left)
+    (heat-is t k) (le-read (heat-fits t k) (target-fits t s) (c .if2 .left))
 
 halve-add-if1 : (t : ℕ) → halve-lts.Need-add-if1 (at-kelvin-reads.Asked, at-kelvin-reads.Learnt, halve-below t, halve.Post) (halve-at t) halve.Post
 halve-add-if1 t c = omega (arith, c .pre .1 .0 .1, c .pre .1 .0 .2)
@@ -83,7 +92,9 @@ halve-at-kelvin-requires t c κs =
     (rw (back (used-fits t s)) (s .pre .1 .0 .3), omega (arith, s .pre .1 .0 .0), omega (arith, s .pre .1 .0 .2))
 
 halve-add-halve : (t : ℕ) → halve-lts.Need-add-halve (at-kelvin-reads.Asked, at-kelvin-reads.Learnt, halve-below t, halve.Post) (halve-at t) halve.Post
-halve-add-halve t c = let s = c .before .before .before .before .before .before .before .before .before in omega (arith, s .pre .1 .1 .0, room-first (c .before .before .before .before .before .before .before .before .if1 .left) (s .pre .1 .1 .1))
+halve-add-halve t c =
+    let at-if1 = c .before .before .before .before .before .before .before .before in
+    let s = at-if1 .before in omega (arith, s .pre .1 .1 .0, room-first (at-if1 .if1 .left) (s .pre .1 .1 .1))
 
 halve-halve-requires : (t : ℕ) → halve-lts.Need-halve-requires (at-kelvin-reads.Asked, at-kelvin-reads.Learnt, halve-below t, halve.Post) (halve-at t) halve.Post
 halve-halve-requires t c κs =
@@ -97,7 +108,9 @@ halve-halve-requires t c κs =
     )
 
 halve-add-halve-2 : (t : ℕ) → halve-lts.Need-add-halve-2 (at-kelvin-reads.Asked, at-kelvin-reads.Learnt, halve-below t, halve.Post) (halve-at t) halve.Post
-halve-add-halve-2 t c = let s = c .before .before .before .before .before .before .before .before .before in omega (arith, s .pre .1 .1 .0, room-first (c .before .before .before .before .before .before .before .before .if1 .left) (s .pre .1 .1 .1))
+halve-add-halve-2 t c =
+    let at-if1 = c .before .before .before .before .before .before .before .before in
+    let s = at-if1 .before in omega (arith, s .pre .1 .1 .0, room-first (at-if1 .if1 .left) (s .pre .1 .1 .1))
 
 halve-halve-requires-2 : (t : ℕ) → halve-lts.Need-halve-requires-2 (at-kelvin-reads.Asked, at-kelvin-reads.Learnt, halve-below t, halve.Post) (halve-at t) halve.Post
 halve-halve-requires-2 t c κs =
@@ -111,10 +124,12 @@ halve-halve-requires-2 t c κs =
     )
 
 halve-returns-2 : (t : ℕ) → halve-lts.Need-returns-2 (at-kelvin-reads.Asked, at-kelvin-reads.Learnt, halve-below t, halve.Post) (halve-at t) halve.Post
-halve-returns-2 t c = let s = c .before .before .before .before .before .before .before .before .before .before in turned (look-upper t (c .before .before)) (rw (back (used-fits t s)) at (c .halve .ensures))
+halve-returns-2 t c =
+    let s = c .before .before .before .before .before .before .before .before .before .before in turned (look-upper t (c .before .before)) (rw (back (used-fits t s)) at (c .halve .ensures))
 
 halve-returns-3 : (t : ℕ) → halve-lts.Need-returns-3 (at-kelvin-reads.Asked, at-kelvin-reads.Learnt, halve-below t, halve.Post) (halve-at t) halve.Post
-halve-returns-3 t c = let s = c .before .before .before .before .before .before .before .before .before .before in turned (look-lower t (c .before .before)) (rw (back (used-fits t s)) at (c .halve2 .ensures))
+halve-returns-3 t c =
+    let s = c .before .before .before .before .before .before .before .before .before .before in turned (look-lower t (c .before .before)) (rw (back (used-fits t s)) at (c .halve2 .ensures))
 
 pub +halve-spec : {M : Type 1} → statement M
 +halve-spec = close μ-halve λ t. halve-lts.spec (at-kelvin-reads.Asked, at-kelvin-reads.Learnt, halve-below t, halve.Post)

@@ -24,7 +24,9 @@ whole c =
     rw (p .high, p .low, c .power2 .ensures, c .before .power .ensures) (floor-below (s .args .scale * s .args .digits) 26 (26 - s .args .k) (s .args .k) (omega arith))
 
 fits : (c : tie.After-power2) → let p = c .before .before .before .multiply .result in p .high * c .power2 .result + p .low / c .before .power .result < 2 ^ 60
-fits c = rw (whole c) (quotient-lt (c .before .before .before .before) (c .before .before .before .before .args .k) (c .before .before .before .before .pre .1 .1 .0))
+fits c =
+    let at-start = c .before .before .before .before in
+    rw (whole c) (quotient-lt at-start (at-start .args .k) (at-start .pre .1 .1 .0))
 
 unit : (c : tie.After-power2) → 0 < c .before .power .result
 unit c = rw (c .before .power .ensures) (pow-pos (c .before .before .before .before .args .k))
@@ -81,23 +83,27 @@ add-with-rest-2 c =
     omega (arith, p .ensures .high, p .ensures .low, mod-le (p .result .high) (c .power3 .result), quotient-lt (c .before .before .before) 26 (lit≤ tt))
 
 with-rest-requires-2 : tie.Need-with-rest-requires-2
-with-rest-requires-2 c κs = rw (whole-above c) (quotient-lt (c .before .before .before) (c .before .before .before .args .k) (c .before .before .before .pre .1 .1 .0))
+with-rest-requires-2 c κs =
+    let at-start = c .before .before .before in
+    rw (whole-above c) (quotient-lt at-start (at-start .args .k) (at-start .pre .1 .1 .0))
 
 returns : tie.Need-returns
 returns c =
-    let s = c .before .before .before .before .before in
+    let at-multiply = c .before .before .before .before in
+    let s = at-multiply .before in
     let r = c .with-rest .ensures in
-    let p = c .before .before .before .before .multiply .ensures in
-    let rest : c .before .before .before .before .multiply .result .low % c .before .before .power .result ≡ s .args .scale * s .args .digits % 2 ^ s .args .k =
+    let p = at-multiply .multiply .ensures in
+    let rest : at-multiply .multiply .result .low % c .before .before .power .result ≡ s .args .scale * s .args .digits % 2 ^ s .args .k =
     rw (p .low, c .before .before .power .ensures) (rest-below (s .args .scale * s .args .digits) 26 (26 - s .args .k) (s .args .k) (omega arith)) in
     record { floor = r .floor ∙ whole (c .before); ceiling = rw (whole (c .before), rest) at (r .ceiling) }
 
 returns-2 : tie.Need-returns-2
 returns-2 c =
-    let s = c .before .before .before .before in
+    let at-multiply = c .before .before .before in
+    let s = at-multiply .before in
     let r = c .with-rest2 .ensures in
-    let p = c .before .before .before .multiply .ensures in
-    let rest : some (c .before .before .before .multiply .result .high % c .before .power3 .result + c .before .before .before .multiply .result .low) ≡ some (s .args .scale * s .args .digits % 2 ^ s .args .k) =
+    let p = at-multiply .multiply .ensures in
+    let rest : some (at-multiply .multiply .result .high % c .before .power3 .result + at-multiply .multiply .result .low) ≡ some (s .args .scale * s .args .digits % 2 ^ s .args .k) =
     rw (p .high, p .low, c .before .power3 .ensures) (rest-above (s .args .scale * s .args .digits) 26 (s .args .k - 26) (s .args .k) (omega arith)) in
     record { floor = r .floor ∙ whole-above (c .before); ceiling = rw (whole-above (c .before), rest) at (r .ceiling) }
 

@@ -21,17 +21,20 @@ significand-fits c = let s = c .before .before in rw (c .significand-of .ensures
 
 -- the scaled significand at its places, rounded down and rounded up
 cut-is : (c : tie.After-cut-by) → let a = c .before .before .before .before .args in
-    CutOf (a .scale * significand (a .fields .exponent) (a .fields .fraction) / 2 ^ places (a .fields .exponent)) (a .scale * significand (a .fields .exponent) (a .fields .fraction) % 2 ^ places (a .fields .exponent)) (c .cut-by .result)
+    CutOf (a .scale * significand (a .fields .exponent) (a .fields .fraction) / 2 ^ places (a .fields .exponent))
+    (a .scale * significand (a .fields .exponent) (a .fields .fraction) % 2 ^ places (a .fields .exponent)) (c .cut-by .result)
 cut-is c = rw (c .before .before .significand-of .ensures, c .before .places-of .ensures) at (c .cut-by .ensures)
 
 below-60 : (c : tie.After-cut-by) → let a = c .before .before .before .before .args in a .scale * significand (a .fields .exponent) (a .fields .fraction) / 2 ^ places (a .fields .exponent) < 2 ^ 60
 below-60 c =
     let s = c .before .before .before .before in
     let a = s .args in
-    floor-lt (a .scale) (significand (a .fields .exponent) (a .fields .fraction)) (s .pre .1 .0) (significand-lt (a .fields .exponent) (a .fields .fraction) (s .pre .1 .1 .0)) (places (a .fields .exponent)) (omega arith)
+    floor-lt (a .scale) (significand (a .fields .exponent) (a .fields .fraction)) (s .pre .1 .0)
+    (significand-lt (a .fields .exponent) (a .fields .fraction) (s .pre .1 .1 .0)) (places (a .fields .exponent)) (omega arith)
 
 decided : (c : tie.After-cut-by) → let a = c .before .before .before .before .args in
-    spans (a .scale * sized (a .fields .exponent) (a .fields .fraction)) (2 ^ 1074) (a .lo) (a .hi) ≡ _&&_ (leZ (a .lo) (pos (c .cut-by .result .floor))) (leZ (pos (c .cut-by .result .ceiling)) (a .hi))
+    spans (a .scale * sized (a .fields .exponent) (a .fields .fraction)) (2 ^ 1074) (a .lo) (a .hi)
+    ≡ _&&_ (leZ (a .lo) (pos (c .cut-by .result .floor))) (leZ (pos (c .cut-by .result .ceiling)) (a .hi))
 decided c =
     let s = c .before .before .before .before in
     let a = s .args in

@@ -17,11 +17,13 @@ use Rattle.marking.proofs.inner.station_judged.Statement.{statement}
 use Rattle.marking.proofs.inner.station_judged.Tie as tie
 
 -- past the sheet, what the charge and the temperature tell is the whole order's answer
-told : (c : tie.After-admit-at) → let s = c .before .before in paperGas (c .admit-at .result) ≡ first (heatOrder document01 (s .args .charge) (s .args .t .0) (s .args .sheet .now)) (gasOf (s .args .charge))
+told : (c : tie.After-admit-at) → let s = c .before .before in
+    paperGas (c .admit-at .result) ≡ first (heatOrder document01 (s .args .charge) (s .args .t .0) (s .args .sheet .now)) (gasOf (s .args .charge))
 told c = let s = c .before .before in past-heat (s .pre .0) document01 (s .args .charge) (s .args .t .0) (c .admit-at .ensures)
 
 -- and so is the gas
-given-gas : (c : tie.After-gas) → let s = c .before .before .before .before in gives (c .gas .given .0 .0) ≡ first (heatOrder document01 (s .args .charge) (s .args .t .0) (s .args .sheet .now)) (gasOf (s .args .charge))
+given-gas : (c : tie.After-gas) → let s = c .before .before .before .before in
+    gives (c .gas .given .0 .0) ≡ first (heatOrder document01 (s .args .charge) (s .args .t .0) (s .args .sheet .now)) (gasOf (s .args .charge))
 given-gas c = ap paperGas (sym (c .gas .given .1)) ∙ told (c .before .before)
 
 readable : (c : tie.After-gas) → let s = c .before .before .before .before in Readable document01 (s .args .t .0) (s .args .sheet .now) (c .gas .given .0 .0)
@@ -51,13 +53,15 @@ returns c =
     let t : SFits w64 (s .args .t .0) = search needs in
     let f : SFits w64 (c .before .before .before .specific-at .result) = search needs in
     let m : SFits w64 (c .before .of-u64 .result) = search needs in
-    told-through (heatOrder document01 (s .args .charge) (s .args .t .0) (s .args .sheet .now)) (gasOf (s .args .charge)) (numbersOf (s .args .sheet .now) (s .args .t .0)) (given-gas (c .before .before .before .before .before))
+    told-through (heatOrder document01 (s .args .charge) (s .args .t .0) (s .args .sheet .now)) (gasOf (s .args .charge))
+    (numbersOf (s .args .sheet .now) (s .args .t .0)) (given-gas (c .before .before .before .before .before))
     (rw (back t, back f ∙ c .before .before .before .specific-at .ensures, back m ∙ c .before .of-u64 .ensures, c .before .before .total-mass .ensures) refl)
 
 returns-2 : tie.Need-returns-2
 returns-2 c =
-    let s = c .before .before .before .before .before in
-    stopped-first (heatOrder document01 (s .args .charge) (s .args .t .0) (s .args .sheet .now)) [] _ _ (c .before .r .given .0 .0) (ap paperGas (sym (c .before .r .given .1)) ∙ told (c .before .before .before))
+    let at-told = c .before .before .before in
+    let s = at-told .before .before in
+    stopped-first (heatOrder document01 (s .args .charge) (s .args .t .0) (s .args .sheet .now)) [] _ _ (c .before .r .given .0 .0) (ap paperGas (sym (c .before .r .given .1)) ∙ told at-told)
 
 pub station-judged-spec : {M : Type 1} → statement M
 station-judged-spec =

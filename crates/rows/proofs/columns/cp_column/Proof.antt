@@ -1,3 +1,4 @@
+-- `cp_column`: the array CP in the code, digit for digit, is the column Cp of the table in specs/Rows.antt.
 use mathlib.Core.Path.{refl}
 use Rattle.rows.specs.Rows.{rowsCp}
 use Rattle.rows.proofs.columns.cp_column.Statement.{statement}

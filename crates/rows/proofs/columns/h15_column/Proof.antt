@@ -1,3 +1,4 @@
+-- `h15_column`: the array H15 in the code, digit for digit, is the column H15 of the table in specs/Rows.antt.
 use mathlib.Core.Path.{refl}
 use Rattle.rows.specs.Rows.{rowsH15}
 use Rattle.rows.proofs.columns.h15_column.Statement.{statement}

@@ -1,3 +1,4 @@
+-- `heat_column`: the array H in the code, digit for digit, is the column H of the table in specs/Rows.antt.
 use mathlib.Core.Path.{refl}
 use Rattle.rows.specs.Rows.{rowsH}
 use Rattle.rows.proofs.columns.heat_column.Statement.{statement}

@@ -1,3 +1,4 @@
+-- `psi_column`: the array PSI in the code, digit for digit, is the column psi of the table in specs/Rows.antt.
 use mathlib.Core.Path.{refl}
 use Rattle.rows.specs.Rows.{rowsPsi}
 use Rattle.rows.proofs.columns.psi_column.Statement.{statement}

@@ -1,3 +1,4 @@
+-- `co2_at`: the second of a row's three numbers, which stand from three times the row on, inside the list.
 use borrow.Author.Needs.{needs}
 use Rattle.sheet.specs.Sheet.{co2}
 use Rattle.sheet.proofs.inner.co2_at.Statement.{statement}

@@ -1,3 +1,5 @@
+-- `copy`: afterwards the lent list is the numbers.
+-- Invariant: the list's first i places are the numbers', the others as they were lent. Measure: the places that are left.
 use borrow.Author.Needs.{needs}
 use mathlib.Core.Path.{_≡_, refl, ap, _∙_}
 use mathlib.Core.List.{List, _++_}

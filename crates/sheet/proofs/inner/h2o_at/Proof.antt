@@ -1,3 +1,4 @@
+-- `h2o_at`: the third of a row's three numbers, which stand from three times the row on, inside the list.
 use borrow.Author.Needs.{needs}
 use Rattle.sheet.specs.Sheet.{h2o}
 use Rattle.sheet.proofs.inner.h2o_at.Statement.{statement}

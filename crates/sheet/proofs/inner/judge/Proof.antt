@@ -1,3 +1,4 @@
+-- `judge`: the list's length first, then its first bad row: the order of document 01 (`told-length`, `told-row`, `told-good`).
 use mathlib.Core.Path.{sym}
 use native.Mathlib.Omega.{arith}
 use borrow.Author.Needs.{needs}
@@ -12,7 +13,9 @@ first-bad-row-requires : tie.Need-first-bad-row-requires
 first-bad-row-requires c κs = search needs
 
 returns-2 : tie.Need-returns-2
-returns-2 c = sym (told-row (c .before .before .before .before .args .list .now) (c .before .first-bad-row .result) (c .before .before .if1 .left) (sym (c .before .first-bad-row .ensures)) (c .if2 .taken))
+returns-2 c =
+    let at-start = c .before .before .before .before in
+    sym (told-row (at-start .args .list .now) (c .before .first-bad-row .result) (c .before .before .if1 .left) (sym (c .before .first-bad-row .ensures)) (c .if2 .taken))
 
 returns-3 : tie.Need-returns-3
 returns-3 c = sym (told-good (c .before .before .before .before .args .list .now) (c .before .before .if1 .left) (omega (arith, c .before .first-bad-row .ensures)))

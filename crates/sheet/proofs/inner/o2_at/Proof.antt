@@ -1,3 +1,4 @@
+-- `o2_at`: the first of a row's three numbers, which stand from three times the row on, inside the list.
 use borrow.Author.Needs.{needs}
 use Rattle.sheet.specs.Sheet.{o2}
 use Rattle.sheet.proofs.inner.o2_at.Statement.{statement}

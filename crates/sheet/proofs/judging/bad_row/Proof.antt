@@ -1,3 +1,4 @@
+-- `bad_row`: a row after row 0 is bad by a value over the limit or by the step from the row before it (`bad-row-at`).
 use mathlib.Core.Path.{_≡_, refl, sym, _∙_}
 use mathlib.Core.Bool.{true, false}
 use Prim.Native.Nat.{_+_}
@@ -16,7 +17,10 @@ over-limit-requires : tie.Need-over-limit-requires
 over-limit-requires c κs = search needs
 
 returns : tie.Need-returns
-returns c = let t : overLimit (c .before .before .before .args .list .now) (firstKelvin + c .before .before .before .args .row) ≡ true = sym (c .before .over-limit .ensures) ∙ c .if1 .taken in rw (bad-row-at (c .before .before .before .args .list .now) (c .before .before .before .args .row) (omega arith), t) refl
+returns c =
+    let at-start = c .before .before .before in
+    let t : overLimit (at-start .args .list .now) (firstKelvin + at-start .args .row) ≡ true = sym (c .before .over-limit .ensures) ∙ c .if1 .taken in
+    rw (bad-row-at (at-start .args .list .now) (at-start .args .row) (omega arith), t) refl
 
 sub-breaks-step : tie.Need-sub-breaks-step
 sub-breaks-step c = search needs
@@ -25,7 +29,10 @@ breaks-step-requires : tie.Need-breaks-step-requires
 breaks-step-requires c κs = search needs
 
 returns-2 : tie.Need-returns-2
-returns-2 c = let t : overLimit (c .before .before .before .before .args .list .now) (firstKelvin + c .before .before .before .before .args .row) ≡ false = sym (c .before .before .over-limit .ensures) ∙ c .before .if1 .left in rw (bad-row-at (c .before .before .before .before .args .list .now) (c .before .before .before .before .args .row) (omega arith), t) (c .breaks-step .ensures)
+returns-2 c =
+    let at-start = c .before .before .before .before in
+    let t : overLimit (at-start .args .list .now) (firstKelvin + at-start .args .row) ≡ false = sym (c .before .before .over-limit .ensures) ∙ c .before .if1 .left in
+    rw (bad-row-at (at-start .args .list .now) (at-start .args .row) (omega arith), t) (c .breaks-step .ensures)
 
 pub bad-row-spec : {M : Type 1} → statement M
 bad-row-spec =

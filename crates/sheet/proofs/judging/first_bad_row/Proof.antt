@@ -1,3 +1,5 @@
+-- `first_bad_row`: the first row that is bad, or the number of rows where none is (`first-bad-found`, `no-bad-row`).
+-- Invariant: no row before this one is bad. Measure: the rows that are left.
 use mathlib.Core.Path.{_≡_, sym, _∙_}
 use mathlib.Core.Bool.{false}
 use Prim.Native.Nat.{ℕ, _-_, _≤_, _<_}
@@ -29,7 +31,10 @@ bad-row-requires : tie.Need-bad-row-requires Inv-loop μ-loop
 bad-row-requires c κs = search needs
 
 returns-2 : tie.Need-returns-2 Inv-loop μ-loop
-returns-2 c = sym (first-bad-found (c .before .before .before .before .before .before .before .args .list .now) (c .before .before .before .loop .row) (omega arith) (sym (c .before .bad-row .ensures) ∙ c .if2 .taken) (c .before .before .before .loop .inv .2))
+returns-2 c =
+    let at-loop = c .before .before .before in
+    let at-start = at-loop .before .before .before .before in
+    sym (first-bad-found (at-start .args .list .now) (at-loop .loop .row) (omega arith) (sym (c .before .bad-row .ensures) ∙ c .if2 .taken) (at-loop .loop .inv .2))
 
 add-row : tie.Need-add-row Inv-loop μ-loop
 add-row c = omega arith

@@ -1,3 +1,4 @@
+-- `after`: the next field of the row, with the value just read kept as first or second, or the next row's kelvin.
 use native.Mathlib.Omega.{arith}
 use borrow.Author.Tests.{lt-ltb, le-ltb}
 use borrow.Author.Needs.{needs}

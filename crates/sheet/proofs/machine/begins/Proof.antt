@@ -1,3 +1,4 @@
+-- `begins`: a number from 1 on begins the kelvin's digits where it is the kelvin or what is left of it by 10, by 100 or by 1,000.
 use native.Mathlib.Omega.{arith}
 use borrow.Author.Tests.{lt-ltb, le-ltb, eq-eqb, ne-eqb}
 use Rattle.sheet.specs.inner.Machine.{begins}

@@ -1,3 +1,4 @@
+-- `closer`: a tab ends the first three fields of a row, a line feed the last.
 use borrow.Author.Tests.{lt-ltb, le-ltb}
 use Rattle.sheet.specs.inner.Machine.{closer}
 use Rattle.sheet.proofs.machine.closer.Statement.{statement}

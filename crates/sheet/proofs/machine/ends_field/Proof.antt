@@ -1,3 +1,4 @@
+-- `ends_field`: the field's own closing byte, and only where the field may end.
 use mathlib.Core.Path.{_≡_, refl, sym, _∙_}
 use borrow.Author.Tests.{eq-eqb, ne-eqb}
 use borrow.Author.Needs.{needs}
@@ -14,7 +15,8 @@ whole-requires c κs = search needs
 returns : tie.Need-returns
 unfolding endsField
 returns c =
-    let e : c .before .before .before .args .b ≡ closer (c .before .before .before .args .p) = cc in
+    let at-start = c .before .before .before in
+    let e : at-start .args .b ≡ closer (at-start .args .p) = cc in
     rw (eq-eqb _ _ e) (c .whole .ensures)
 
 returns-2 : tie.Need-returns-2

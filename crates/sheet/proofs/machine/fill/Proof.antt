@@ -1,3 +1,5 @@
+-- `fill`: byte after byte, the state and the list are what `fillByte` makes of the text; after a bad byte nothing changes any more.
+-- Invariant: they are so for the first i bytes, and the list keeps its length (`length-stored`). Measure: the bytes that are left.
 use borrow.Author.Needs.{needs}
 use mathlib.Core.Path.{_≡_, refl, sym, _∙_, ap}
 use Prim.Native.Nat.{_+_, _-_, _≤_}
@@ -21,11 +23,15 @@ abbrev μ-loop : tie.MeasureT-loop
 
 -- the state and the list after the byte at hand
 after-byte : (c : tie.After-step-place Inv-loop μ-loop) → let s = c .before .before .before .before .before .before .before .before .before .before in
-    filled (c .step-place .result) (c .before .before .before .store-place .last .1 .1 .0) ≡ run fillByte (filled (Going (s .args .from)) (s .args .list .now)) (take (c .before .before .before .before .before .before .before .loop .i + 1) (s .args .text .now))
+    filled (c .step-place .result) (c .before .before .before .store-place .last .1 .1 .0)
+    ≡ run fillByte (filled (Going (s .args .from)) (s .args .list .now)) (take (c .before .before .before .before .before .before .before .loop .i + 1) (s .args .text .now))
 after-byte c =
-    let s = c .before .before .before .before .before .before .before .before .before .before in
-    let l = c .before .before .before .before .before .before .before .loop in
-    byte-more (filled (Going (s .args .from)) (s .args .list .now)) (s .args .text .now) (l .i) (l .p) (l .list) (omega arith) (l .inv .2) (c .step-place .ensures) (c .before .before .before .store-place .ensures)
+    let at-store-place = c .before .before .before in
+    let at-loop = at-store-place .before .before .before .before in
+    let s = at-loop .before .before .before in
+    let l = at-loop .loop in
+    byte-more (filled (Going (s .args .from)) (s .args .list .now)) (s .args .text .now) (l .i) (l .p) (l .list) (omega arith) (l .inv .2)
+    (c .step-place .ensures) (at-store-place .store-place .ensures)
 
 still-long : (c : tie.After-step-place Inv-loop μ-loop) → length (c .before .before .before .store-place .last .1 .1 .0) ≡ sheetNumbers
 still-long c =
@@ -52,8 +58,10 @@ same-length c = still-long (c .before .before .before) ∙ sym (c .before .befor
 
 returns : tie.Need-returns Inv-loop μ-loop
 returns c =
-    let s = c .before .before .before .before .before .before .before .before .before .before .before .before .before in
-    bad-whole (filled (Going (s .args .from)) (s .args .list .now)) (s .args .text .now) (c .before .before .before .before .before .before .before .before .before .before .loop .i + 1) _ _ (rw (c .before .row .given .1) at (after-byte (c .before .before .before)))
+    let at-after-byte = c .before .before .before in
+    let at-loop = at-after-byte .before .before .before .before .before .before .before in
+    let s = at-loop .before .before .before in
+    bad-whole (filled (Going (s .args .from)) (s .args .list .now)) (s .args .text .now) (at-loop .loop .i + 1) _ _ (rw (c .before .row .given .1) at (after-byte at-after-byte))
 
 enum-known-next : tie.Need-enum-known-next Inv-loop μ-loop
 enum-known-next c = search needs
@@ -65,7 +73,9 @@ loop-less : tie.Need-loop-less Inv-loop μ-loop
 loop-less c = omega arith
 
 loop-again : tie.Need-loop-again Inv-loop μ-loop
-loop-again c = (omega arith, still-long (c .before .before .before), rw (c .before .next .given .1) at (after-byte (c .before .before .before)))
+loop-again c =
+    let at-still-long = c .before .before .before in
+    (omega arith, still-long at-still-long, rw (c .before .next .given .1) at (after-byte at-still-long))
 
 same-length-2 : tie.Need-same-length-2 Inv-loop μ-loop
 same-length-2 c = c .before .loop .inv .1 ∙ sym (c .before .before .before .before .pre)

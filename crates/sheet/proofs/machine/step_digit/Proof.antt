@@ -1,3 +1,4 @@
+-- `step_digit`: a digit that the field takes keeps its value small (`takes-bound`), so it fits; any other makes this row bad.
 use mathlib.Core.Path.{_≡_, refl, ap}
 use mathlib.Core.Bool.{true, false}
 use native.Mathlib.Omega.{arith}
@@ -19,7 +20,8 @@ with-digit-requires c κs =
 returns : tie.Need-returns
 unfolding stepDigit
 returns c =
-    let t : takesDigit (c .before .before .before .args .p) (c .before .before .before .args .d) ≡ true = cc in
+    let at-start = c .before .before .before in
+    let t : takesDigit (at-start .args .p) (at-start .args .d) ≡ true = cc in
     rw t (ap Going (c .with-digit .ensures))
 
 returns-2 : tie.Need-returns-2

@@ -1,3 +1,4 @@
+-- `step_end`: a byte that ends the field goes on after it, any other makes this row bad.
 use mathlib.Core.Path.{_≡_, refl, ap}
 use mathlib.Core.Bool.{true, false}
 use borrow.Author.Needs.{needs}
@@ -15,7 +16,8 @@ after-requires c κs = search needs
 returns : tie.Need-returns
 unfolding stepEnd
 returns c =
-    let t : endsField (c .before .before .before .args .p) (c .before .before .before .args .b) ≡ true = cc in
+    let at-start = c .before .before .before in
+    let t : endsField (at-start .args .p) (at-start .args .b) ≡ true = cc in
     rw t (ap Going (c .after .ensures))
 
 returns-2 : tie.Need-returns-2

@@ -1,3 +1,4 @@
+-- `step_place`: past the last row every byte is bad; before, a digit (`digit-range`) and any other byte each go their way.
 use mathlib.Core.Path.{_≡_}
 use mathlib.Core.Bool.{true, false}
 use native.Mathlib.Omega.{arith}
@@ -19,8 +20,9 @@ is-digit-requires c κs = search needs
 
 sub-step-digit : tie.Need-sub-step-digit
 sub-step-digit c =
-    let t : isDigit (c .before .before .before .before .args .b) ≡ true = cc in
-    digit-range (c .before .before .before .before .args .b) t .0
+    let at-start = c .before .before .before .before in
+    let t : isDigit (at-start .args .b) ≡ true = cc in
+    digit-range (at-start .args .b) t .0
 
 step-digit-requires : tie.Need-step-digit-requires
 step-digit-requires c κs = search needs
@@ -31,14 +33,16 @@ step-end-requires c κs = search needs
 returns-2 : tie.Need-returns-2
 unfolding stepPlace
 returns-2 c =
-    let t : isDigit (c .before .before .before .before .before .args .b) ≡ true = cc in
-    simp (lt-ltb (c .before .before .before .before .before .args .p .row) tableRows (omega arith), t) (c .step-digit .ensures)
+    let at-start = c .before .before .before .before .before in
+    let t : isDigit (at-start .args .b) ≡ true = cc in
+    simp (lt-ltb (at-start .args .p .row) tableRows (omega arith), t) (c .step-digit .ensures)
 
 returns-3 : tie.Need-returns-3
 unfolding stepPlace
 returns-3 c =
-    let t : isDigit (c .before .before .before .before .before .args .b) ≡ false = cc in
-    simp (lt-ltb (c .before .before .before .before .before .args .p .row) tableRows (omega arith), t) (c .step-end .ensures)
+    let at-start = c .before .before .before .before .before in
+    let t : isDigit (at-start .args .b) ≡ false = cc in
+    simp (lt-ltb (at-start .args .p .row) tableRows (omega arith), t) (c .step-end .ensures)
 
 pub step-place-spec : {M : Type 1} → statement M
 step-place-spec =

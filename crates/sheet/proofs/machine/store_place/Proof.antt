@@ -1,3 +1,4 @@
+-- `store_place`: where the byte ends a row its three numbers are written at three times the row, inside the list (`row-bound`); else nothing is.
 use mathlib.Core.Path.{_≡_, refl}
 use mathlib.Core.Bool.{true, false}
 use Prim.Native.Nat.{_<_}
@@ -15,7 +16,9 @@ passed : (c : tie.After-struct-known) → endsRow (c .before .before .before .be
 passed c = cc
 
 below : (c : tie.After-struct-known) → c .before .before .before .before .args .p .row < tableRows
-below c = row-bound (c .before .before .before .before .args .p) (c .before .before .before .before .args .b) (passed c)
+below c =
+    let at-start = c .before .before .before .before in
+    row-bound (at-start .args .p) (at-start .args .b) (passed c)
 
 ends-row-requires : tie.Need-ends-row-requires
 ends-row-requires c κs = search needs
@@ -59,7 +62,9 @@ returns c = simp (passed c, add-one, add-two)
 
 returns-2 : tie.Need-returns-2
 unfolding storedPlace
-returns-2 c = let t : endsRow (c .before .before .before .args .p) (c .before .before .before .args .b) ≡ false = cc in rw t refl
+returns-2 c =
+    let at-start = c .before .before .before in
+    let t : endsRow (at-start .args .p) (at-start .args .b) ≡ false = cc in rw t refl
 
 pub store-place-spec : {M : Type 1} → statement M
 store-place-spec =

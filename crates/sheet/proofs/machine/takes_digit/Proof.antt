@@ -1,3 +1,4 @@
+-- `takes_digit`: in the first field the digits must begin the row's kelvin, in the others the number must keep to the limit.
 use native.Mathlib.Omega.{arith}
 use borrow.Author.Tests.{eq-eqb, ne-eqb}
 use borrow.Author.Needs.{needs}

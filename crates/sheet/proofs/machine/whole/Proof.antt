@@ -1,3 +1,4 @@
+-- `whole`: the first field may end where it is the row's kelvin, the others behind any digit.
 use native.Mathlib.Omega.{arith}
 use borrow.Author.Tests.{eq-eqb, ne-eqb}
 use borrow.Author.Needs.{needs}

@@ -1,3 +1,4 @@
+-- `whole_sheet`: all rows are read exactly where the place stands behind the last, and never after a bad byte.
 use mathlib.Core.Path.{refl}
 use borrow.Author.Needs.{needs}
 use Rattle.sheet.proofs.machine.whole_sheet.Statement.{statement}

@@ -1,3 +1,4 @@
+-- `with_digit`: ten times the value and the digit, which fits; nothing else of the place changes but that a digit was seen.
 use mathlib.Core.Path.{refl}
 use borrow.Author.Needs.{needs}
 use Rattle.sheet.specs.inner.Machine.{withDigit}

@@ -1,3 +1,4 @@
+-- `begin`: the gas and the temperature of the start with their two heats, at that temperature and at 15 °C, which the table covers.
 use borrow.Author.Needs.{needs}
 use mathlib.Core.Path.{refl}
 use Rattle.signed.specs.Zed.{inZ}

@@ -1,3 +1,4 @@
+-- `charge_of`: within the limits every number is small, so it is the same with a sign.
 use borrow.Author.Needs.{needs}
 use mathlib.Core.Path.{refl}
 use mir.Val.{SFits}

@@ -1,3 +1,4 @@
+-- `done`: the number of steps and the last state as the walk's answer; the temperature is in the table's range, so it is told unchanged.
 use borrow.Author.Needs.{needs}
 use mathlib.Core.Path.{ap₂}
 use lib.IntN.{ℤ}

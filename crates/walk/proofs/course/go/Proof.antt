@@ -1,3 +1,5 @@
+-- `go`: each turn is a step of `run` from where the walk stands, up to the first refused one or the last.
+-- Invariant: the first i steps are done, the lists hold what they told and else what was lent (`Sofar`). Measure: the steps that are left.
 use borrow.Author.Needs.{needs}
 use mathlib.Core.Path.{refl, _∙_}
 use Prim.Native.Nat.{_-_, _*_}
@@ -66,25 +68,41 @@ returns : tie.Need-returns Inv-loop μ-loop
 returns c =
     let b = c .before .before .before .before .before .before .before .before .before .before .loop in
     let s = c .before .before .before .before .before .before .step in
-    halted _ _ _ _ _ _ _ _ _ (b .looks) _ _ (b .inv) (search needs) _ (c .before .before .before .before .before .before .before .before .step-at .ensures) (s .result) (s .last .1 .1 .0) _ _ (c .before .before .number .given .1) (c .stopped .ensures) (s .ensures)
+    halted _ _ _ _ _ _ _ _ _ (b .looks) _ _ (b .inv) (search needs) _ (c .before .before .before .before .before .before .before .before .step-at .ensures)
+    (s .result) (s .last .1 .1 .0) _ _ (c .before .before .number .given .1) (c .stopped .ensures) (s .ensures)
 
 enum-known-next : tie.Need-enum-known-next Inv-loop μ-loop
 enum-known-next c = search needs
 
 mul-mk : tie.Need-mul-mk Inv-loop μ-loop
-mul-mk c = omega (arith, c .before .before .before .before .before .before .before .before .before .before .loop-test, c .before .before .before .before .before .before .before .before .before .before .before .before .before .before .pre .1 .0)
+mul-mk c =
+    let at-loop-test = c .before .before .before .before .before .before .before .before .before .before in
+    let at-start = at-loop-test .before .before .before .before in
+    omega (arith, at-loop-test .loop-test, at-start .pre .1 .0)
 
 slice-set-from-mk : tie.Need-slice-set-from-mk Inv-loop μ-loop
-slice-set-from-mk c = omega (arith, c .before .before .before .before .before .before .before .before .before .before .loop-test, c .before .before .before .before .before .before .before .before .before .before .before .loop .inv .same-t, c .before .before .before .before .before .before .before .before .before .before .before .loop .inv .fit-t)
+slice-set-from-mk c =
+    let at-loop-test = c .before .before .before .before .before .before .before .before .before .before in
+    let at-loop = at-loop-test .before in
+    omega (arith, at-loop-test .loop-test, at-loop .loop .inv .same-t, at-loop .loop .inv .fit-t)
 
 mul-left : tie.Need-mul-left Inv-loop μ-loop
-mul-left c = omega (arith, c .before .before .before .before .before .before .before .before .before .before .loop-test, c .before .before .before .before .before .before .before .before .before .before .before .before .before .before .pre .1 .0)
+mul-left c =
+    let at-loop-test = c .before .before .before .before .before .before .before .before .before .before in
+    let at-start = at-loop-test .before .before .before .before in
+    omega (arith, at-loop-test .loop-test, at-start .pre .1 .0)
 
 slice-set-from-left : tie.Need-slice-set-from-left Inv-loop μ-loop
-slice-set-from-left c = omega (arith, c .before .before .before .before .before .before .before .before .before .before .loop-test, c .before .before .before .before .before .before .before .before .before .before .before .loop .inv .same-r, c .before .before .before .before .before .before .before .before .before .before .before .loop .inv .fit-r)
+slice-set-from-left c =
+    let at-loop-test = c .before .before .before .before .before .before .before .before .before .before in
+    let at-loop = at-loop-test .before in
+    omega (arith, at-loop-test .loop-test, at-loop .loop .inv .same-r, at-loop .loop .inv .fit-r)
 
 add-i : tie.Need-add-i Inv-loop μ-loop
-add-i c = omega (arith, c .before .before .before .before .before .before .before .before .before .before .loop-test, c .before .before .before .before .before .before .before .before .before .before .before .before .before .before .pre .1 .0)
+add-i c =
+    let at-loop-test = c .before .before .before .before .before .before .before .before .before .before in
+    let at-start = at-loop-test .before .before .before .before in
+    omega (arith, at-loop-test .loop-test, at-start .pre .1 .0)
 
 loop-less : tie.Need-loop-less Inv-loop μ-loop
 loop-less c = search needs
@@ -93,7 +111,9 @@ loop-again : tie.Need-loop-again Inv-loop μ-loop
 loop-again c =
     let b = c .before .before .before .before .before .before .before .before .before .before .before .loop in
     let s = c .before .before .before .before .before .before .before .step in
-    turned _ _ _ _ _ _ _ _ _ (b .looks) _ _ (b .inv) (search needs) _ (c .before .before .before .before .before .before .before .before .before .step-at .ensures) (s .result) (s .last .1 .1 .0) _ _ _ _ (c .before .before .before .next .given .1) (search needs) (search needs) (s .ensures)
+    turned _ _ _ _ _ _ _ _ _ (b .looks) _ _ (b .inv) (search needs) _
+    (c .before .before .before .before .before .before .before .before .before .step-at .ensures) (s .result) (s .last .1 .1 .0) _ _ _ _
+    (c .before .before .before .next .given .1) (search needs) (search needs) (s .ensures)
 
 done-requires : tie.Need-done-requires Inv-loop μ-loop
 done-requires c κs = let b = c .before .loop in (search needs, b .inv .stands .burns .limits, b .inv .stands .covered)

@@ -1,3 +1,4 @@
+-- `stopped`: the number of steps done, the refusal and the state before it; the temperature is in the table's range, so it is told unchanged.
 use borrow.Author.Needs.{needs}
 use mathlib.Core.Path.{ap₂}
 use lib.IntN.{ℤ}

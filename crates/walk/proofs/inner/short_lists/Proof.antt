@@ -1,3 +1,4 @@
+-- `short_lists`: the three lengths are tried one after the other; the places for the looks of so few steps can be counted.
 use borrow.Author.Tests.{lt-ltb, le-ltb}
 use borrow.Author.Needs.{needs}
 use mathlib.Core.Path.{refl}

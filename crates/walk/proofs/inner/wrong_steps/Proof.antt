@@ -1,3 +1,4 @@
+-- `wrong_steps`: numbers that are no whole steps, else too many of them: `wrongSteps`.
 use borrow.Author.Tests.{eq-eqb, ne-eqb}
 use mathlib.Core.Path.{refl}
 use Prim.Native.Nat.{_%_}

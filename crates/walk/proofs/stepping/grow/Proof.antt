@@ -1,3 +1,4 @@
+-- `grow`: carbon, then hydrogen, each by `add`: one that is too many is refusal 4, else the gas with both, the air as it was.
 use borrow.Author.Needs.{needs}
 use mathlib.Core.List.{[], _∷_}
 use mathlib.Core.Path.{_≡_, refl, sym, ap, _∙_}
@@ -13,14 +14,20 @@ use Rattle.walk.proofs.stepping.grow.Statement.{statement}
 use Rattle.walk.proofs.stepping.grow.Tie as tie
 
 -- what `add` tells of a count, by the number itself
-told : {r : Told ℕ} (have : ℕ) {z : ℤ} → SFits w64 z → r ≡ first (4 when wrongCount have (toZ w64 (ofZ w64 z)) ∷ []) (have + up (toZ w64 (ofZ w64 z))) → r ≡ first (4 when wrongCount have z ∷ []) (have + up z)
+told : {r : Told ℕ} (have : ℕ) {z : ℤ} → SFits w64 z → r ≡ first (4 when wrongCount have (toZ w64 (ofZ w64 z)) ∷ []) (have + up (toZ w64 (ofZ w64 z)))
+    → r ≡ first (4 when wrongCount have z ∷ []) (have + up z)
 told have f e = e ∙ ap (λ (x : ℤ). first (4 when wrongCount have x ∷ []) (have + up x)) (back f)
 
-carbon-told : (c : tie.After-add) → let s = c .before .before in paperAtoms (c .add .result) ≡ first (4 when wrongCount (s .args .gas .carbon) (s .args .p .carbon) ∷ []) (s .args .gas .carbon + up (s .args .p .carbon))
+carbon-told : (c : tie.After-add) → let s = c .before .before in
+    paperAtoms (c .add .result) ≡ first (4 when wrongCount (s .args .gas .carbon) (s .args .p .carbon) ∷ []) (s .args .gas .carbon + up (s .args .p .carbon))
 carbon-told c = let f : SFits w64 (c .before .before .args .p .carbon) = search needs in told (c .before .before .args .gas .carbon) f (c .add .ensures)
 
-hydrogen-told : (c : tie.After-add2) → let s = c .before .before .before .before .before .before .before in paperAtoms (c .add2 .result) ≡ first (4 when wrongCount (s .args .gas .hydrogen) (s .args .p .hydrogen) ∷ []) (s .args .gas .hydrogen + up (s .args .p .hydrogen))
-hydrogen-told c = let f : SFits w64 (c .before .before .before .before .before .before .before .args .p .hydrogen) = search needs in told (c .before .before .before .before .before .before .before .args .gas .hydrogen) f (c .add2 .ensures)
+hydrogen-told : (c : tie.After-add2) → let s = c .before .before .before .before .before .before .before in
+    paperAtoms (c .add2 .result) ≡ first (4 when wrongCount (s .args .gas .hydrogen) (s .args .p .hydrogen) ∷ []) (s .args .gas .hydrogen + up (s .args .p .hydrogen))
+hydrogen-told c =
+    let at-start = c .before .before .before .before .before .before .before in
+    let f : SFits w64 (at-start .args .p .hydrogen) = search needs in
+    told (at-start .args .gas .hydrogen) f (c .add2 .ensures)
 
 add-requires : tie.Need-add-requires
 add-requires c κs = search needs
@@ -54,9 +61,12 @@ returns-2 c =
 
 returns-3 : tie.Need-returns-3
 returns-3 c =
-    let s = c .before .before .before .before .before .before .before .before .before .before in
-    let x = line-clear 4 _ (s .args .gas .carbon + up (s .args .p .carbon)) (sym (ap paperAtoms (c .before .before .before .before .before .before .carbon .given .1)) ∙ carbon-told (c .before .before .before .before .before .before .before .before)) in
-    let y = line-clear 4 _ (s .args .gas .hydrogen + up (s .args .p .hydrogen)) (sym (ap paperAtoms (c .before .hydrogen .given .1)) ∙ hydrogen-told (c .before .before .before)) in
+    let at-hydrogen-told = c .before .before .before in
+    let at-carbon = at-hydrogen-told .before .before .before in
+    let at-carbon-told = at-carbon .before .before in
+    let s = at-carbon-told .before .before in
+    let x = line-clear 4 _ (s .args .gas .carbon + up (s .args .p .carbon)) (sym (ap paperAtoms (at-carbon .carbon .given .1)) ∙ carbon-told at-carbon-told) in
+    let y = line-clear 4 _ (s .args .gas .hydrogen + up (s .args .p .hydrogen)) (sym (ap paperAtoms (c .before .hydrogen .given .1)) ∙ hydrogen-told at-hydrogen-told) in
     rw (right-atoms (s .args .gas) (s .args .p) (s .pre) (x .0) (y .0)) (ap gives (new-gas (s .args .gas) (s .args .p) (s .pre) _ _ (x .0) (y .0) (x .1) (y .1)))
 
 pub grow-spec : {M : Type 1} → statement M

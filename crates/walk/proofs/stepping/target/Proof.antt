@@ -1,3 +1,4 @@
+-- `target`: each sum on the way from the held heat to the asked one fits, by `InReach`.
 use borrow.Author.Needs.{needs}
 use mir.Val.{SFits}
 use mir.Syntax.{w64}
@@ -25,10 +26,14 @@ add-t6 : tie.Need-add-t6
 add-t6 c = let s = c .before .before .before .before .before .before in rw (back (fit-heat s), back (fit-fifteen s), back (held-fits (s .pre)), back (fit-brought s)) (with-brought-fits (s .pre))
 
 add-t7 : tie.Need-add-t7
-add-t7 c = let s = c .before .before .before .before .before .before .before .before in rw (back (fit-heat s), back (fit-fifteen s), back (held-fits (s .pre)), back (fit-brought s), back (with-brought-fits (s .pre)), back (fit-new s)) (target-fits (s .pre))
+add-t7 c =
+    let s = c .before .before .before .before .before .before .before .before in
+    rw (back (fit-heat s), back (fit-fifteen s), back (held-fits (s .pre)), back (fit-brought s), back (with-brought-fits (s .pre)), back (fit-new s)) (target-fits (s .pre))
 
 returns : tie.Need-returns
-returns c = let s = c .before .before .before .before .before .before .before .before in rw (back (fit-heat s), back (fit-fifteen s), back (held-fits (s .pre)), back (fit-brought s), back (with-brought-fits (s .pre)), back (fit-new s)) (back (target-fits (s .pre)))
+returns c =
+    let s = c .before .before .before .before .before .before .before .before in
+    rw (back (fit-heat s), back (fit-fifteen s), back (held-fits (s .pre)), back (fit-brought s), back (with-brought-fits (s .pre)), back (fit-new s)) (back (target-fits (s .pre)))
 
 pub target-spec : {M : Type 1} → statement M
 target-spec = tie.close (tie.spec sub-t5 add-t6 add-t7 returns)

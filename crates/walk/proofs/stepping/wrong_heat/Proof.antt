@@ -1,3 +1,4 @@
+-- `wrong_heat`: the calorific value, then the plain heat: one outside its range decides.
 use borrow.Author.Needs.{needs}
 use mathlib.Core.Bool.{not}
 use mathlib.Core.Path.{refl, sym, ap, _∙_}
@@ -23,7 +24,10 @@ inside-requires-2 : tie.Need-inside-requires-2
 inside-requires-2 c κs = search needs
 
 returns-2 : tie.Need-returns-2
-returns-2 c = let s = c .before .before .before .before .before in rw (ap not (sym (in-plain _ _ (fit-value s) (c .before .before .before .inside .ensures))) ∙ c .before .before .if1 .left, in-plain _ _ (fit-heat s) (c .inside2 .ensures)) refl
+returns-2 c =
+    let at-inside = c .before .before .before in
+    let s = at-inside .before .before in
+    rw (ap not (sym (in-plain _ _ (fit-value s) (at-inside .inside .ensures))) ∙ c .before .before .if1 .left, in-plain _ _ (fit-heat s) (c .inside2 .ensures)) refl
 
 pub wrong-heat-spec : {M : Type 1} → statement M
 wrong-heat-spec = tie.close (tie.spec inside-requires returns inside-requires-2 returns-2)
