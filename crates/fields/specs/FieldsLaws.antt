@@ -99,11 +99,6 @@ fields-at l p e h q =
     ∙ ap (λ (n : ℕ). take (e - p) (drop p l) ∷ fieldsFrom l (n + 1)) (sym q))))
 
 -- ---- numbers
-pub set-past : {A : Type 0} (l : List A) (i : ℕ) (x : A) → length l ≤ i → set l i x ≡ l
-set-past [] i x h = refl
-set-past (a ∷ l) zero x h = absurd (omega arith)
-set-past (a ∷ l) (suc i) x h = ap (λ m. a ∷ m) (set-past l i x (omega arith))
-
 pub count-next : (l : List ℕ) (p e n : ℕ) (z : ℤ) → p ≤ length l → e ≡ p + spanOf (drop p l) → wholeOf (take (e - p) (drop p l)) ≡ Is z
     → countAll n (fieldsFrom l p) ≡ countAll (n + 1) (fieldsFrom l (e + 1))
 count-next l p e n z h q r = rw (fields-at l p e h q, r) refl

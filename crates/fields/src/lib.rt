@@ -59,7 +59,7 @@ pub fn holds_return(line: &[u8]) -> bool
 }
 
 // Puts the number at n, where the list has that place.
-fn keep(list: &mut [i64], n: usize, z: i64)
+pub fn keep(list: &mut [i64], n: usize, z: i64)
     ensures { λ _. ⌜ now (list .exit) ≡ set (now (list .entry)) n z ⌝ }
 {
     if n < list.len() {

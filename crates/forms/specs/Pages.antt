@@ -11,7 +11,10 @@ use Rattle.console.specs.Walks.{walkTold, printedWalk}
 
 abbrev pub usageText : List ℕ
 usageText =
-    bytesOf "keys walk [FILE]   prints the walk of a question, from FILE or standard input\nkeys ask           answers requests, one a line, from standard input\nkeys sheet FILE    judges a sheet file\n..   --sheet FILE  with another sheet than the built-in one\n"
+    bytesOf "keys walk [FILE]   prints the walk of a question, from FILE or standard input\n"
+    ++ bytesOf "keys ask           answers requests, one a line, from standard input\n"
+    ++ bytesOf "keys sheet FILE    judges a sheet file\n"
+    ++ bytesOf "..   --sheet FILE  with another sheet than the built-in one\n"
 
 -- document 01's walk: A 1, no fuel, from 200,000 mK, two steps of heat alone
 abbrev pub examplePage : SheetAnswer → List ℕ → List ℕ

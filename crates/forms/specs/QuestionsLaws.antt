@@ -9,7 +9,8 @@ use borrow.Author.Tests.{lt-ltb, le-ltb, le-leb}
 use lib.Dec.{lit<}
 use lib.IntN.{ℤ, pos}
 use lib.ListN.{length, getD, set}
-use lib.Seq.{sets, length-sets, set-out}
+use lib.Seq.{sets, length-sets}
+use Rattle.text.specs.PutLaws.{sets-past}
 use Rattle.fields.specs.Fields.{holdsReturn, fieldsOf, fieldsFrom, fourOf}
 use Rattle.fields.specs.declared.Four.{Four}
 use Rattle.fields.specs.declared.Four.the-variants.{Are, Not}
@@ -57,10 +58,6 @@ lines-read k (line ∷ lines) h = go (holdsReturn line) (fourOf (fieldsOf line))
     go true f e = rw (one-more k (omega arith)) (stays-returned (suc k) lines)
     go false (Are a b c d) e = rw (one-more k (omega arith)) e
     go false Not e = rw (one-more k (omega arith)) (stays-bad (suc k) lines)
-
-sets-past : (xs l : List ℤ) (at : ℕ) → length l ≤ at → sets l at xs ≡ l
-sets-past [] l at h = refl
-sets-past (x ∷ xs) l at h = rw (set-out l at x h) (sets-past xs l (suc at) (omega arith))
 
 -- the list holds the numbers of the lines taken, as far as it reaches
 pub lines-kept : (k n : ℕ) (lines : List (List ℕ)) (numbers : List ℤ) → length numbers ≡ keptNumbers → k + length lines ≤ mostCounted → readFrom k lines ≡ Good n

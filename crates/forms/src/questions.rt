@@ -4,7 +4,7 @@ use fields::Four;
 use sheet::SheetAnswer;
 ghost use Prim.Native.Nat.{_+_, _≤_, min};
 ghost use mathlib.Core.Path.{_≡_};
-ghost use lib.ListN.{length, set};
+ghost use lib.ListN.{length};
 ghost use Rattle.rows.specs.Rows.{rowsH};
 ghost use Rattle.text.specs.Put.{Put};
 ghost use Rattle.console.specs.Limits.{pageRoom};
@@ -32,25 +32,16 @@ fn one_more(n: u64) -> u64
     if n < u64::MAX { n + 1 } else { n }
 }
 
-// Puts a number at a place of the list, where there is one.
-fn keep(numbers: &mut [i64], at: usize, z: i64)
-    ensures { λ _. ⌜ now (numbers .exit) ≡ set (now (numbers .entry)) at z ⌝ }
-{
-    if at < numbers.len() {
-        numbers[at] = z;
-    }
-}
-
 // Keeps the four numbers of line k, where the list has places for them.
 fn keep_line(numbers: &mut [i64], k: u64, a: i64, b: i64, c: i64, d: i64)
     ensures { λ _. ⌜ now (numbers .exit) ≡ keptLine k a b c d (now (numbers .entry)) ⌝ }
 {
     if k < KEPT_LINES {
         let at = walk::STEP_NUMBERS * (k as usize);
-        keep(numbers, at, a);
-        keep(numbers, at + 1, b);
-        keep(numbers, at + 2, c);
-        keep(numbers, at + 3, d);
+        fields::keep(numbers, at, a);
+        fields::keep(numbers, at + 1, b);
+        fields::keep(numbers, at + 2, c);
+        fields::keep(numbers, at + 3, d);
     }
 }
 

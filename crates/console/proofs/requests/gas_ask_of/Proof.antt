@@ -1,4 +1,4 @@
--- `gas_ask_of`: four numbers over a good sheet are asked; a refused sheet, and then other fields, are not: the cases of `askedOf`.
+-- `gas_ask_of`: four numbers over a good sheet are asked; a refused sheet, and then other fields, are not: the cases of `gasAskOf`.
 use Rattle.signed.specs.Zed.{back}
 use mir.Val.{SFits}
 use mir.Syntax.{w64}
