@@ -9,7 +9,7 @@ use lib.ListN.{length}
 use Rattle.signed.specs.Zed.{up, outside}
 use Rattle.refusal.specs.Refusals.{Told, gives, refused, Line, _when_, first}
 use Rattle.air.specs.Limits.{lookPlaces, coldest, hottest}
-use Rattle.air.specs.Inverted.{looks, unreached, Found, found, written}
+use Rattle.air.specs.Inverse.{looks, unreached, Found, found, written}
 use Rattle.sheet.specs.Answers.{sheetLines}
 use Rattle.gas.specs.declared.Charge.{Charge}
 use Rattle.gas.specs.declared.Products.{Products}

@@ -12,7 +12,7 @@ use Rattle.refusal.specs.declared.Refusal.the-variants.{Plain}
 use Rattle.refusal.specs.Refusals.{Told, gives, refused, Line, _when_, toldBy, first, First, Clear, none, clear}
 use Rattle.refusal.specs.RefusalsLaws.{refusal-given, values-given}
 use Rattle.air.specs.Limits.{lookPlaces, coldest, hottest}
-use Rattle.air.specs.Inverted.{unreached, found}
+use Rattle.air.specs.Inverse.{unreached, found}
 use Rattle.sheet.specs.Sheet.{Accepted}
 use Rattle.sheet.specs.Answers.{sheetLines}
 use Rattle.sheet.specs.AnswersLaws.{accepted-of-told, past-sheet}

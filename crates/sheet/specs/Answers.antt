@@ -10,7 +10,7 @@ use Rattle.rows.specs.Limits.{tableRows}
 use Rattle.sheet.specs.declared.SheetAnswer.{SheetAnswer}
 use Rattle.sheet.specs.declared.SheetAnswer.the-variants.{Good, Refused}
 use Rattle.sheet.specs.Text.{IsSheet, FirstBad}
-use Rattle.sheet.specs.IsSheet.{notLong, firstBadRow}
+use Rattle.sheet.specs.Sheet.{notLong, firstBadRow}
 
 -- an answer as the paper has it: good, with no value of its own, or the refusal
 abbrev pub paperSheet : SheetAnswer → Told (Unit {0})

@@ -18,7 +18,7 @@ use Rattle.sheet.specs.declared.SheetAnswer.the-variants.{Good, Refused}
 use Rattle.sheet.specs.Text.{sheetText, Numbers, IsSheet}
 use Rattle.sheet.specs.OneOutcome.{one-read_sheet}
 use Rattle.sheet.specs.Answers.{paperSheet, Form, sheetOf, noSheet, breaks, badRowOf, numbersOf, SheetRead, sheetLines, judgeTold}
-use Rattle.sheet.specs.IsSheet.{firstBadRow, Accepted}
+use Rattle.sheet.specs.Sheet.{firstBadRow, Accepted}
 use Rattle.sheet.specs.SheetLaws.{no-bad-row, rows-before}
 
 -- ---- a text is read as a list exactly where it is the sheet of that list

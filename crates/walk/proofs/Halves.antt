@@ -18,7 +18,7 @@ use Rattle.refusal.specs.Refusals.{Told, gives, refused, first, Clear, clear, n
 use Rattle.refusal.specs.RefusalsLaws.{gives-clear, values-given}
 use Rattle.air.specs.Halving.{eleven}
 use Rattle.air.specs.HalvingLaws.{length-eleven}
-use Rattle.air.specs.Inverted.{temperature, rest, looks, unreached, Found, found, written}
+use Rattle.air.specs.Inverse.{temperature, rest, looks, unreached, Found, found, written}
 use Rattle.air.specs.InverseLaws.{looks-most, temperature-least, temperature-most}
 use Rattle.sheet.specs.Sheet.{Accepted}
 use Rattle.gas.specs.declared.Gas.{Gas}
