@@ -1,3 +1,2 @@
 -- What several proofs of this crate share: the structs, and the promises through them.
-pub mod Structs
 pub mod Promised

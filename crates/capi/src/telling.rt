@@ -55,6 +55,17 @@ fn placed_of(r: Refusal) -> u32
     }
 }
 
+// A refusal alone, as the calls for a sheet tell it: the first three fields of every other struct.
+fn tell_refusal(r: Refusal) -> SheetTold
+    ensures { λ t. ⌜ t ≡ flatSheet (refused r) ⌝ }
+{
+    SheetTold {
+        refusal: refusal::number_of(r),
+        row: row_of(r),
+        placed: placed_of(r),
+    }
+}
+
 // A sheet read or judged.
 pub(crate) fn tell_sheet(answer: SheetAnswer) -> SheetTold
     ensures { λ r. ⌜ r ≡ flatSheet (paperSheet answer) ⌝ }
@@ -65,11 +76,7 @@ pub(crate) fn tell_sheet(answer: SheetAnswer) -> SheetTold
             row: NO_ROW,
             placed: 0,
         },
-        SheetAnswer::Refused(r) => SheetTold {
-            refusal: refusal::number_of(r),
-            row: row_of(r),
-            placed: placed_of(r),
-        },
+        SheetAnswer::Refused(r) => tell_refusal(r),
     }
 }
 
@@ -84,12 +91,15 @@ pub(crate) fn tell_reading(answer: Reading) -> ReadingTold
             placed: 0,
             reading,
         },
-        Reading::Refused(r) => ReadingTold {
-            refusal: refusal::number_of(r),
-            row: row_of(r),
-            placed: placed_of(r),
-            reading: 0,
-        },
+        Reading::Refused(r) => {
+            let told = tell_refusal(r);
+            ReadingTold {
+                refusal: told.refusal,
+                row: told.row,
+                placed: told.placed,
+                reading: 0,
+            }
+        }
     }
 }
 
@@ -108,16 +118,19 @@ pub(crate) fn tell_burn(answer: BurnAnswer) -> BurnTold
             n2: products.n2,
             ar: products.ar,
         },
-        BurnAnswer::Refused(r) => BurnTold {
-            refusal: refusal::number_of(r),
-            row: row_of(r),
-            placed: placed_of(r),
-            co2: 0,
-            h2o: 0,
-            o2: 0,
-            n2: 0,
-            ar: 0,
-        },
+        BurnAnswer::Refused(r) => {
+            let told = tell_refusal(r);
+            BurnTold {
+                refusal: told.refusal,
+                row: told.row,
+                placed: told.placed,
+                co2: 0,
+                h2o: 0,
+                o2: 0,
+                n2: 0,
+                ar: 0,
+            }
+        }
     }
 }
 
@@ -125,10 +138,11 @@ pub(crate) fn tell_burn(answer: BurnAnswer) -> BurnTold
 fn no_heat(r: Refusal) -> HeatTold
     ensures { λ t. ⌜ t ≡ flatHeat (refused r) ⌝ }
 {
+    let told = tell_refusal(r);
     HeatTold {
-        refusal: refusal::number_of(r),
-        row: row_of(r),
-        placed: placed_of(r),
+        refusal: told.refusal,
+        row: told.row,
+        placed: told.placed,
         heat: 0,
     }
 }
@@ -175,13 +189,16 @@ pub(crate) fn tell_temperature(answer: TemperatureAnswer) -> TemperatureTold
             millikelvin: t.0,
             rest: rest.0,
         },
-        TemperatureAnswer::Refused(r) => TemperatureTold {
-            refusal: refusal::number_of(r),
-            row: row_of(r),
-            placed: placed_of(r),
-            millikelvin: 0,
-            rest: 0,
-        },
+        TemperatureAnswer::Refused(r) => {
+            let told = tell_refusal(r);
+            TemperatureTold {
+                refusal: told.refusal,
+                row: told.row,
+                placed: told.placed,
+                millikelvin: 0,
+                rest: 0,
+            }
+        }
     }
 }
 
@@ -197,13 +214,16 @@ pub(crate) fn tell_psi(answer: PsiAnswer) -> PsiTold
             millikelvin: t.0,
             rest,
         },
-        PsiAnswer::Refused(r) => PsiTold {
-            refusal: refusal::number_of(r),
-            row: row_of(r),
-            placed: placed_of(r),
-            millikelvin: 0,
-            rest: 0,
-        },
+        PsiAnswer::Refused(r) => {
+            let told = tell_refusal(r);
+            PsiTold {
+                refusal: told.refusal,
+                row: told.row,
+                placed: told.placed,
+                millikelvin: 0,
+                rest: 0,
+            }
+        }
     }
 }
 
@@ -231,17 +251,20 @@ pub(crate) fn tell_walk(answer: WalkAnswer) -> WalkTold
     match answer {
         WalkAnswer::Done(steps, charge, t) => tell_begun(0, steps, charge, t),
         WalkAnswer::Stopped(steps, number, charge, t) => tell_begun(number, steps, charge, t),
-        WalkAnswer::Refused(r) => WalkTold {
-            refusal: refusal::number_of(r),
-            row: row_of(r),
-            placed: placed_of(r),
-            begun: 0,
-            steps: 0,
-            air: 0,
-            carbon: 0,
-            hydrogen: 0,
-            millikelvin: 0,
-        },
+        WalkAnswer::Refused(r) => {
+            let told = tell_refusal(r);
+            WalkTold {
+                refusal: told.refusal,
+                row: told.row,
+                placed: told.placed,
+                begun: 0,
+                steps: 0,
+                air: 0,
+                carbon: 0,
+                hydrogen: 0,
+                millikelvin: 0,
+            }
+        }
     }
 }
 
@@ -258,14 +281,17 @@ pub(crate) fn tell_station(answer: StationAnswer) -> StationTold
             content: figures.content,
             mass: figures.mass,
         },
-        StationAnswer::Refused(r) => StationTold {
-            refusal: refusal::number_of(r),
-            row: row_of(r),
-            placed: placed_of(r),
-            millikelvin: 0.0,
-            content: 0.0,
-            mass: 0.0,
-        },
+        StationAnswer::Refused(r) => {
+            let told = tell_refusal(r);
+            StationTold {
+                refusal: told.refusal,
+                row: told.row,
+                placed: told.placed,
+                millikelvin: 0.0,
+                content: 0.0,
+                mass: 0.0,
+            }
+        }
     }
 }
 
@@ -299,11 +325,14 @@ pub(crate) fn tell_mark(answer: MarkAnswer) -> MarkTold
             placed: 0,
             counts: 0,
         },
-        MarkAnswer::Refused(r) => MarkTold {
-            refusal: refusal::number_of(r),
-            row: row_of(r),
-            placed: placed_of(r),
-            counts: 0,
-        },
+        MarkAnswer::Refused(r) => {
+            let told = tell_refusal(r);
+            MarkTold {
+                refusal: told.refusal,
+                row: told.row,
+                placed: told.placed,
+                counts: 0,
+            }
+        }
     }
 }

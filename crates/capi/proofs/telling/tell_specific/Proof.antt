@@ -1,10 +1,6 @@
 -- `tell_specific`: a content of 1 g with refusal 0, or a refusal with 0 for it: the two cases of `flatHeat`.
 use borrow.Author.Needs.{needs}
-use mathlib.Core.Path.{_∙_, sym, ap}
-use Rattle.gas.specs.declared.SpecificAnswer.{SpecificAnswer}
-use Rattle.gas.specs.Answers.{paperSpecific}
-use Rattle.capi.specs.Flat.{flatHeat}
-use Rattle.capi.proofs.Structs.{heat-found}
+use Rattle.signed.specs.Zed.{back}
 use Rattle.capi.proofs.telling.tell_specific.Statement.{statement}
 use Rattle.capi.proofs.telling.tell_specific.Tie as tie
 
@@ -18,17 +14,12 @@ no-heat-requires : tie.Need-no-heat-requires
 no-heat-requires c κs = search needs
 
 returns : tie.Need-returns
-returns c = heat-found (search needs) ∙ sym (ap (λ (a : SpecificAnswer). flatHeat (paperSpecific a)) (c .before .answer .given .1))
+returns c = let g = c .before .answer .given in rw (g .1, back {z = g .0 .0} (search needs))
 
 returns-2 : tie.Need-returns-2
-returns-2 c = c .no-heat .ensures ∙ sym (ap (λ (a : SpecificAnswer). flatHeat (paperSpecific a)) (c .before .before .answer2 .given .1))
+returns-2 c = rw (c .before .before .answer2 .given .1) (c .no-heat .ensures)
 
 pub tell-specific-spec : {M : Type 1} → statement M
 tell-specific-spec =
     tie.close
-    (tie.spec
-    enum-known-answer
-    enum-known-answer-2
-    no-heat-requires
-    returns
-    returns-2)
+    (tie.spec enum-known-answer enum-known-answer-2 no-heat-requires returns returns-2)

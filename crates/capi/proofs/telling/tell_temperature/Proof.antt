@@ -1,10 +1,6 @@
 -- `tell_temperature`: the mK and the rest with refusal 0, or a refusal with 0 in both: the two cases of `flatTemperature`.
 use borrow.Author.Needs.{needs}
-use mathlib.Core.Path.{_∙_, sym, ap}
-use Rattle.gas.specs.declared.TemperatureAnswer.{TemperatureAnswer}
-use Rattle.gas.specs.Answers.{paperTemperature}
-use Rattle.capi.specs.Flat.{flatTemperature}
-use Rattle.capi.proofs.Structs.{temperature-found, temperature-refused}
+use Rattle.signed.specs.Zed.{back}
 use Rattle.capi.proofs.telling.tell_temperature.Statement.{statement}
 use Rattle.capi.proofs.telling.tell_temperature.Tie as tie
 
@@ -14,32 +10,16 @@ enum-known-answer c = search needs
 enum-known-answer-2 : tie.Need-enum-known-answer-2
 enum-known-answer-2 c = search needs
 
-number-of-requires : tie.Need-number-of-requires
-number-of-requires c κs = search needs
-
-row-of-requires : tie.Need-row-of-requires
-row-of-requires c κs = search needs
-
-placed-of-requires : tie.Need-placed-of-requires
-placed-of-requires c κs = search needs
+tell-refusal-requires : tie.Need-tell-refusal-requires
+tell-refusal-requires c κs = search needs
 
 returns : tie.Need-returns
-returns c = temperature-found (search needs) (search needs) ∙ sym (ap (λ (a : TemperatureAnswer). flatTemperature (paperTemperature a)) (c .before .before .before .answer .given .1))
+returns c = let g = c .before .before .before .answer .given in rw (g .1, back {z = g .0 .0 .0} (search needs), back {z = g .0 .1 .0 .0} (search needs))
 
 returns-2 : tie.Need-returns-2
-returns-2 c =
-    let at-answer2 = c .before .before .before .before in
-    temperature-refused (at-answer2 .answer2 .given .0 .0) (c .before .before .number-of .ensures) (c .before .row-of .ensures) (c .placed-of .ensures)
-    ∙ sym (ap (λ (a : TemperatureAnswer). flatTemperature (paperTemperature a)) (at-answer2 .answer2 .given .1))
+returns-2 c = rw (c .before .before .answer2 .given .1, c .tell-refusal .ensures)
 
 pub tell-temperature-spec : {M : Type 1} → statement M
 tell-temperature-spec =
     tie.close
-    (tie.spec
-    enum-known-answer
-    enum-known-answer-2
-    number-of-requires
-    row-of-requires
-    placed-of-requires
-    returns
-    returns-2)
+    (tie.spec enum-known-answer enum-known-answer-2 tell-refusal-requires returns returns-2)
