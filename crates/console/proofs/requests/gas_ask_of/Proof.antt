@@ -40,8 +40,8 @@ returns-2 c = rw (c .before .before .before .before .numbers .given .1, c .befor
 returns-3 : tie.Need-returns-3
 returns-3 c = search needs
 
-pub asked-of-spec : {M : Type 1} → statement M
-asked-of-spec =
+pub gas-ask-of-spec : {M : Type 1} → statement M
+gas-ask-of-spec =
     tie.close
     (tie.spec
     enum-known-numbers

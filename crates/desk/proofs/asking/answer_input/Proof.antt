@@ -59,9 +59,13 @@ turns-left-requires c κs = search needs
 
 loop-less : tie.Need-loop-less Inv-loop μ-loop
 loop-less c =
-    let at-answer-piece = c .before .before .before .before .before in
-    let at-loop = at-answer-piece .before .before .before .before .before .before .before .before .before .before .before .before .before in
-    omega (arith, c .turns-left .ensures, turns-most (at-loop .loop .turns - 1) (at-answer-piece .answer-piece .result .output))
+    omega (
+      arith,
+      c .turns-left .ensures,
+      turns-most
+          (c .before .before .before .before .before .before .before .before .before .before .before .before .before .before .before .before .before .before .loop .turns - 1)
+          (c .before .before .before .before .before .answer-piece .result .output),
+    )
 
 loop-again : tie.Need-loop-again Inv-loop μ-loop
 loop-again c = (search needs, search needs, search needs, c .before .before .before .before .before .answer-piece .ensures .free)
