@@ -8,7 +8,6 @@ ghost use Rattle.stream.specs.Writing.{outcomeOf, Within, afterWrite, Fl
 use libc::EAGAIN;
 use libc::EINTR;
 use libc::STDERR_FILENO;
-use libc::STDIN_FILENO;
 use libc::STDOUT_FILENO;
 
 // A line that is still read: how many of its bytes are held, or that there were too many.
@@ -84,17 +83,6 @@ pub fn read_some(fd: i32, what: &[u8], piece: &mut [u8]) -> Got
         return Got::End;
     }
     Got::Bytes(io::count(got, piece))
-}
-
-// Reads a piece of standard input. Answers how many bytes it has: 0 at the end of the input or after a failure.
-pub fn read_piece(piece: &mut [u8]) -> usize
-    ensures { λ r. ⌜ r ≤ length (now (piece .exit)) ⌝ }
-{
-    match read_some(STDIN_FILENO, b"standard input", piece) {
-        Got::Bytes(n) => n,
-        Got::End => 0,
-        Got::Failed => 0,
-    }
 }
 
 // The output of a run: where its next byte goes, or that a write failed. Nothing is put and nothing is written after a failure, so what came out is a start of the answers.
