@@ -6,6 +6,7 @@ use Prim.Native.Nat.{ℕ}
 use lib.Dec.{lit≤}
 use lib.IntN.{ℤ, pos}
 use lib.ListN.{replicate}
+use Rattle.text.specs.Bytes.{bytesOf}
 use Rattle.text.specs.Decimal.{decimal}
 use Rattle.refusal.specs.declared.Refusal.the-variants.{At}
 use Rattle.signed.specs.Zed.{inZ}
@@ -20,12 +21,9 @@ use Rattle.walk.specs.Examples.{printedSteps, told-printed, first-looks, second
 use Rattle.walk.specs.Walk.{ended, run, stepsOf, startLines, startState, walked}
 use Rattle.console.specs.Walks.{walkTold, headerText, refusedLine, printedWalk}
 
--- step, mK, rest, looks; 1, 200500, 1, 10; 2, 200501, 0, 10
+-- the page that document 01 prints
 abbrev pub printedPage : List ℕ
-printedPage =
-    115 ∷ 116 ∷ 101 ∷ 112 ∷ 9 ∷ 109 ∷ 75 ∷ 9 ∷ 114 ∷ 101 ∷ 115 ∷ 116 ∷ 9 ∷ 108 ∷ 111 ∷ 111 ∷ 107 ∷ 115 ∷ 10
-    ∷ 49 ∷ 9 ∷ 50 ∷ 48 ∷ 48 ∷ 53 ∷ 48 ∷ 48 ∷ 9 ∷ 49 ∷ 9 ∷ 49 ∷ 48 ∷ 10
-    ∷ 50 ∷ 9 ∷ 50 ∷ 48 ∷ 48 ∷ 53 ∷ 48 ∷ 49 ∷ 9 ∷ 48 ∷ 9 ∷ 49 ∷ 48 ∷ 10 ∷ []
+printedPage = bytesOf "step\tmK\trest\tlooks\n1\t200500\t1\t10\n2\t200501\t0\t10\n"
 
 module _ {s : List ℕ} (ok : Accepted s) where
   pub printed-page : printedWalk (walkTold Good s (charge 1 0 0) (pos 200000) printedSteps) ≡ printedPage

@@ -1,8 +1,9 @@
 -- The requests `mark` (docs/PROGRAM.md): mark kelvins x key window, mark content x key window, mark blank key window.
 use Prim.Native.Nat.{ℕ}
-use mathlib.Core.Bool.{Bool, true, false, cond}
+use mathlib.Core.Bool.{Bool, true, false}
 use mathlib.Core.List.{List, [], _∷_}
 use lib.Ieee.{Float}
+use Rattle.fields.specs.Words.{Worded, _names_, namedBy}
 use Rattle.fields.specs.Fields.{twoOf}
 use Rattle.fields.specs.declared.Two.{Two}
 use Rattle.fields.specs.declared.Two.the-variants.{Are, Not}
@@ -14,28 +15,15 @@ use Rattle.marking.specs.declared.Typed.{Typed}
 use Rattle.marking.specs.declared.Typed.the-variants.{Kelvins as TypedKelvins, Content as TypedContent, Blank as TypedBlank}
 use Rattle.console.specs.declared.marks.Kind.{Kind}
 use Rattle.console.specs.declared.marks.Kind.the-variants.{Kelvins, Content, Blank, Unknown}
-use Rattle.console.specs.Requests.{sameText, misfitText, noNumberText}
+use Rattle.console.specs.Requests.{misfitText, noNumberText}
 use Rattle.wording.specs.Texts.{markText}
 
--- kelvins
-abbrev pub kelvinsWord : List ℕ
-kelvinsWord = 107 ∷ 101 ∷ 108 ∷ 118 ∷ 105 ∷ 110 ∷ 115 ∷ []
-
--- content
-abbrev pub contentWord : List ℕ
-contentWord = 99 ∷ 111 ∷ 110 ∷ 116 ∷ 101 ∷ 110 ∷ 116 ∷ []
-
--- blank
-abbrev pub blankWord : List ℕ
-blankWord = 98 ∷ 108 ∷ 97 ∷ 110 ∷ 107 ∷ []
-
 -- the kind of answer that a word names
+abbrev pub kinds : List (Worded Kind)
+kinds = "kelvins" names Kelvins ∷ "content" names Content ∷ "blank" names Blank ∷ []
+
 unfoldable pub kindOf : List ℕ → Kind
-kindOf w =
-    cond (sameText w kelvinsWord) Kelvins
-    (cond (sameText w contentWord) Content
-    (cond (sameText w blankWord) Blank
-    Unknown))
+kindOf = namedBy kinds Unknown
 
 -- a number that was typed, in kelvins or as a specific content
 abbrev pub inUnit : Bool → Float → Typed

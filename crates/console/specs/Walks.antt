@@ -7,6 +7,7 @@ use mathlib.Core.List.{List, [], _∷_, _++_}
 use lib.Dec.{leb}
 use lib.IntN.{ℤ, pos}
 use lib.ListN.{length, drop, getD}
+use Rattle.text.specs.Bytes.{bytesOf}
 use Rattle.text.specs.Decimal.{decimal, decimalZ}
 use Rattle.walk.specs.Limits.{mostSteps, mostLooks}
 use Rattle.fields.specs.declared.Numbers.{Numbers}
@@ -67,9 +68,9 @@ abbrev pub walkRequest : SheetAnswer → List ℕ → List (List ℕ) → List �
 walkRequest verdict s fs = walkOf verdict s (startOf (countAll 0 fs) (valuesOf fs)) (drop startNumbers (valuesOf fs))
 
 -- ---- the printed walk
--- step, mK, rest, looks, parted by tabs, and a line feed
+-- the line above the steps
 abbrev pub headerText : List ℕ
-headerText = 115 ∷ 116 ∷ 101 ∷ 112 ∷ 9 ∷ 109 ∷ 75 ∷ 9 ∷ 114 ∷ 101 ∷ 115 ∷ 116 ∷ 9 ∷ 108 ∷ 111 ∷ 111 ∷ 107 ∷ 115 ∷ 10 ∷ []
+headerText = bytesOf "step\tmK\trest\tlooks\n"
 
 -- refused, a tab, the number and a line feed
 abbrev pub refusedLine : ℕ → List ℕ

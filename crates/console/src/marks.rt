@@ -3,9 +3,11 @@ use crate::replies;
 use marking::Typed;
 use typed::Number;
 ghost use mathlib.Core.Path.{_≡_};
+ghost use lib.ListN.{length};
 ghost use Rattle.text.specs.Put.{Put};
+ghost use Rattle.fields.specs.Words.{namedAt, NoneBelow};
 ghost use Rattle.fields.specs.Fields.{fieldsFrom, twoOf};
-ghost use Rattle.console.specs.Marks.{kindOf, inUnit, markedText, numberText, typedText, kindText, markRequest};
+ghost use Rattle.console.specs.Marks.{kinds, kindOf, inUnit, markedText, numberText, typedText, kindText, markRequest};
 
 // What kind of answer is typed.
 enum Kind {
@@ -15,20 +17,31 @@ enum Kind {
     Unknown,
 }
 
+// No kind: the place is past the table.
+fn unnamed(p: usize) -> Kind
+    requires { ⌜ NoneBelow (length kinds) p ⌝ }
+    ensures { λ r. ⌜ r ≡ namedAt kinds Kind.Unknown p ⌝ }
+{
+    Kind::Unknown
+}
+
+// The kind at a place of the table.
+fn kind_at(p: usize) -> Kind
+    ensures { λ r. ⌜ r ≡ namedAt kinds Kind.Unknown p ⌝ }
+{
+    match p {
+        0 => Kind::Kelvins,
+        1 => Kind::Content,
+        2 => Kind::Blank,
+        _ => unnamed(p),
+    }
+}
+
 // The kind that a word names.
 fn kind_of(word: &[u8]) -> Kind
     ensures { λ r. ⌜ r ≡ kindOf (now (word .entry)) ⌝ }
 {
-    if check::same(word, b"kelvins") {
-        return Kind::Kelvins;
-    }
-    if check::same(word, b"content") {
-        return Kind::Content;
-    }
-    if check::same(word, b"blank") {
-        return Kind::Blank;
-    }
-    Kind::Unknown
+    kind_at(fields::position_in(word, b"kelvins\tcontent\tblank"))
 }
 
 // A typed number in kelvins, or as a specific content.

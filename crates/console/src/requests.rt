@@ -4,7 +4,9 @@ use gas::Charge;
 use refusal::Refusal;
 use sheet::SheetAnswer;
 ghost use mathlib.Core.Path.{_≡_};
-ghost use Rattle.console.specs.Requests.{requestOf, gasRequest, otherRequest, gasAskOf};
+ghost use lib.ListN.{length};
+ghost use Rattle.fields.specs.Words.{positionOf, wordsIn, namedAt, NoneBelow};
+ghost use Rattle.console.specs.Requests.{requests, requestOf, gasAskOf};
 
 // What a line asks for.
 pub enum Request {
@@ -33,61 +35,61 @@ pub enum Quantity {
     Station,
 }
 
+// The place of a word in the table of requests; past its end where it is none of them.
+fn position(word: &[u8]) -> usize
+    ensures { λ r. ⌜ r ≡ positionOf (now (word .entry)) (wordsIn requests) ⌝ }
+{
+    fields::position_in(
+        word,
+        b"mark\t\
+        walk\t\
+        station\t\
+        temperature\t\
+        specific-content\t\
+        content\t\
+        gas-heat\t\
+        burn\t\
+        air-heat\t\
+        air-temperature\t\
+        air-psi\t\
+        air-cp",
+    )
+}
+
+// No request: the place is past the table.
+fn unnamed(p: usize) -> Request
+    requires { ⌜ NoneBelow (length requests) p ⌝ }
+    ensures { λ r. ⌜ r ≡ namedAt requests Request.Unknown p ⌝ }
+{
+    Request::Unknown
+}
+
+// The request at a place of the table.
+fn request_at(p: usize) -> Request
+    ensures { λ r. ⌜ r ≡ namedAt requests Request.Unknown p ⌝ }
+{
+    match p {
+        0 => Request::Mark,
+        1 => Request::Walk,
+        2 => Request::OfGas(Quantity::Station),
+        3 => Request::OfGas(Quantity::Temperature),
+        4 => Request::OfGas(Quantity::Specific),
+        5 => Request::OfGas(Quantity::Content),
+        6 => Request::OfGas(Quantity::Heat),
+        7 => Request::Burn,
+        8 => Request::OfAir(AirAsk::Heat),
+        9 => Request::OfAir(AirAsk::Temperature),
+        10 => Request::OfAir(AirAsk::Psi),
+        11 => Request::OfAir(AirAsk::Cp),
+        _ => unnamed(p),
+    }
+}
+
 // The request that a word names.
 pub(crate) fn request_of(word: &[u8]) -> Request
     ensures { λ r. ⌜ r ≡ requestOf (now (word .entry)) ⌝ }
 {
-    if check::same(word, b"air-heat") {
-        return Request::OfAir(AirAsk::Heat);
-    }
-    if check::same(word, b"air-psi") {
-        return Request::OfAir(AirAsk::Psi);
-    }
-    if check::same(word, b"air-cp") {
-        return Request::OfAir(AirAsk::Cp);
-    }
-    if check::same(word, b"air-temperature") {
-        return Request::OfAir(AirAsk::Temperature);
-    }
-    gas_request(word)
-}
-
-// The request about a gas that a word names.
-fn gas_request(word: &[u8]) -> Request
-    ensures { λ r. ⌜ r ≡ gasRequest (now (word .entry)) ⌝ }
-{
-    if check::same(word, b"burn") {
-        return Request::Burn;
-    }
-    if check::same(word, b"gas-heat") {
-        return Request::OfGas(Quantity::Heat);
-    }
-    if check::same(word, b"content") {
-        return Request::OfGas(Quantity::Content);
-    }
-    if check::same(word, b"specific-content") {
-        return Request::OfGas(Quantity::Specific);
-    }
-    if check::same(word, b"temperature") {
-        return Request::OfGas(Quantity::Temperature);
-    }
-    other_request(word)
-}
-
-// The request about a page that a word names.
-fn other_request(word: &[u8]) -> Request
-    ensures { λ r. ⌜ r ≡ otherRequest (now (word .entry)) ⌝ }
-{
-    if check::same(word, b"station") {
-        return Request::OfGas(Quantity::Station);
-    }
-    if check::same(word, b"walk") {
-        return Request::Walk;
-    }
-    if check::same(word, b"mark") {
-        return Request::Mark;
-    }
-    Request::Unknown
+    request_at(position(word))
 }
 
 // A charge with a fourth number, to be asked of a sheet that was judged; the refusal that the sheet was given when it was read; or fields of another form.

@@ -81,7 +81,7 @@ rest-from l p s h =
     ∙ (ap (λ (x : List ℕ). cond (leb (p + s + 1) (length l)) (fieldsOf x) []) (drop-drop (s + 1) p l)
     ∙ ap (λ (n : ℕ). cond (leb (p + s + 1) (length l)) (fieldsOf (drop n l)) []) e))
 
-from-is : (l : List ℕ) (p : ℕ) → p ≤ length l → fieldsFrom l p ≡ fieldsOf (drop p l)
+pub from-is : (l : List ℕ) (p : ℕ) → p ≤ length l → fieldsFrom l p ≡ fieldsOf (drop p l)
 unfolding fieldsFrom
 from-is l p h = rw (le-leb p (length l) h) refl
 

@@ -1,9 +1,10 @@
-// The fields of a line, parted by tabs, and the whole numbers that they are (specs/Fields.antt). For the console above and its programs: every function
-// takes every input and promises an equation.
+// The fields of a line, parted by tabs: the whole numbers that they are (specs/Fields.antt), and the place of a word among them (specs/Words.antt). For the
+// console above and its programs: every function takes every input and promises an equation.
 ghost use mathlib.Core.Path.{_≡_};
 ghost use Prim.Native.Nat.{_+_};
 ghost use lib.ListN.{length, set, drop};
-ghost use Rattle.fields.specs.Fields.{spanOf, fieldsFrom, holdsReturn, countAll, Stored, heldOf, isCount, oneOf, twoOf, threeOf, fourOf};
+ghost use Rattle.fields.specs.Words.{positionOf};
+ghost use Rattle.fields.specs.Fields.{spanOf, fieldsOf, fieldsFrom, holdsReturn, countAll, Stored, heldOf, isCount, oneOf, twoOf, threeOf, fourOf};
 use text::Whole;
 
 // How many numbers the fields are, or that one of them is none.
@@ -156,4 +157,21 @@ pub fn read_four(line: &[u8], from: usize) -> Four
     } else {
         Four::Not
     }
+}
+
+// The place of a word among the fields of a text; their number where it is none of them.
+pub fn position_in(word: &[u8], text: &[u8]) -> usize
+    ensures { λ r. ⌜ r ≡ positionOf (now (word .entry)) (fieldsOf (now (text .entry))) ⌝ }
+{
+    let mut from = 0;
+    let mut n = 0;
+    while from <= text.len() {
+        let end = field_end(text, from);
+        if check::same(word, &text[from..end]) {
+            return n;
+        }
+        n += 1;
+        from = end + 1;
+    }
+    n
 }

@@ -1,12 +1,11 @@
 -- Which form of `keys` the arguments are (docs/PROGRAM.md): keys, keys walk [FILE], keys ask, keys sheet FILE, keys --help, -h and --version; at the end of the first
 -- three `--sheet FILE` may stand.
 use Prim.Native.Nat.{ℕ, suc, _+_}
-use mathlib.Core.Bool.{Bool, cond}
+use mathlib.Core.Bool.{cond}
 use mathlib.Core.List.{List, [], _∷_}
 use lib.Dec.{eqb, ltb}
 use lib.ListN.{length}
-use Rattle.text.specs.Bytes.{bytesOf}
-use Rattle.console.specs.Requests.{sameText}
+use Rattle.fields.specs.Words.{Worded, _names_, namedBy}
 use Rattle.forms.specs.declared.arguments.Word.{Word}
 use Rattle.forms.specs.declared.arguments.Word.the-variants.{Ask, Walk, Sheet, Option, Help, Version, Other}
 use Rattle.forms.specs.declared.arguments.Words.{Words}
@@ -18,14 +17,19 @@ use Rattle.forms.specs.declared.arguments.Form.{Form}
 use Rattle.forms.specs.declared.arguments.Form.the-variants.{Over, Sheet as SheetOf, Help as HelpOf, Version as VersionOf, Misplaced, Wrong}
 
 -- what a word is
-unfoldable pub namedOf : Word → List ℕ → List ℕ → Word → Word
-namedOf other w name word = cond (sameText w name) word other
-
-unfoldable pub aboutOf : List ℕ → Word
-aboutOf w = namedOf (namedOf (namedOf Other w (bytesOf "--version") Version) w (bytesOf "-h") Help) w (bytesOf "--help") Help
+abbrev pub words : List (Worded Word)
+words =
+    "ask" names Ask
+    ∷ "walk" names Walk
+    ∷ "sheet" names Sheet
+    ∷ "--sheet" names Option
+    ∷ "--help" names Help
+    ∷ "-h" names Help
+    ∷ "--version" names Version
+    ∷ []
 
 unfoldable pub wordOf : List ℕ → Word
-wordOf w = namedOf (namedOf (namedOf (namedOf (aboutOf w) w (bytesOf "--sheet") Option) w (bytesOf "sheet") Sheet) w (bytesOf "walk") Walk) w (bytesOf "ask") Ask
+wordOf = namedBy words Other
 
 -- a form that takes no other sheet
 abbrev pub overNone : Form → Named → Form
@@ -88,20 +92,3 @@ optionFrom i (w ∷ ws) = cond (eqb (optionAt i (wordOf w)) 0) (optionFrom (suc 
 -- the form of the arguments, the words after the program's name
 abbrev pub formOf : List (List ℕ) → Form
 formOf ws = formAt (suc (length ws)) (record { first = firstOf ws; option = optionFrom 1 ws })
-
--- ---- the words one after the other
-abbrev pub noWords : Words
-noWords = record { first = Other; option = 0 }
-
-abbrev pub firstWith : ℕ → Word → Word → Word
-firstWith i word before = cond (eqb i 1) word before
-
-abbrev pub optionWith : ℕ → Word → ℕ → ℕ
-optionWith i word before = cond (eqb before 0) (optionAt i word) before
-
-abbrev pub withWord : Words → ℕ → List ℕ → Words
-withWord words i w = record { first = firstWith i (wordOf w) (words .first); option = optionWith i (wordOf w) (words .option) }
-
-abbrev pub seen : Words → ℕ → List (List ℕ) → Words
-seen words i [] = words
-seen words i (w ∷ ws) = seen (withWord words i w) (suc i) ws

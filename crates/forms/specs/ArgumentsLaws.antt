@@ -9,7 +9,8 @@ use lib.Dec.{eqb, lit≤}
 use lib.ListN.{length}
 use Rattle.forms.specs.declared.arguments.Word.{Word}
 use Rattle.forms.specs.declared.arguments.Words.{Words}
-use Rattle.forms.specs.Arguments.{wordOf, formAt, firstOf, optionAt, optionFrom, formOf, noWords, withWord, seen}
+use Rattle.forms.specs.Arguments.{wordOf, formAt, firstOf, optionAt, optionFrom, formOf}
+use Rattle.forms.specs.inner.Seen.{noWords, withWord, seen}
 
 -- past the first word: it stays, and so does the place of an option that was seen
 seen-on : (first : Word) (ws : List (List ℕ)) (option i : ℕ) → 2 ≤ i

@@ -7,3 +7,4 @@ pub mod Questions
 pub mod QuestionsLaws
 pub mod Sheets
 pub mod SheetsLaws
+pub mod inner

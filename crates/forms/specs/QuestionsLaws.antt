@@ -21,7 +21,8 @@ use Rattle.console.specs.WalksLaws.{kept-first, steps-alike}
 use Rattle.forms.specs.Limits.{keptLines, keptNumbers, mostCounted}
 use Rattle.forms.specs.declared.questions.Question.{Question}
 use Rattle.forms.specs.declared.questions.Question.the-variants.{Good, Bad, Returned}
-use Rattle.forms.specs.Questions.{oneMore, keptLine, withFour, keptFour, fourNumbers, numbersIn, onFour, readFrom, walkPage, questionPage, withLines, numbersAfter}
+use Rattle.forms.specs.Questions.{fourNumbers, numbersIn, onFour, readFrom, walkPage}
+use Rattle.forms.specs.inner.Taking.{oneMore, keptLine, withFour, keptFour, questionPage, withLines, numbersAfter}
 
 pub line-kept : (k : ℕ) (a b c d : ℤ) (numbers : List ℤ) {n₁ n₂ n₃ n₄ : List ℤ} → k < keptLines
     → n₁ ≡ set numbers (stepNumbers * k) a → n₂ ≡ set n₁ (stepNumbers * k + 1) b → n₃ ≡ set n₂ (stepNumbers * k + 2) c → n₄ ≡ set n₃ (stepNumbers * k + 3) d → n₄ ≡ keptLine k a b c d numbers

@@ -1,7 +1,10 @@
 // The arguments (docs/PROGRAM.md): a form, its file, and at the end `--sheet FILE`. They are seen word by word; which form they are is told by how many words there
 // are, which the first is and where the first `--sheet` stands.
 ghost use mathlib.Core.Path.{_≡_};
-ghost use Rattle.forms.specs.Arguments.{namedOf, aboutOf, wordOf, noWords, optionAt, firstWith, optionWith, withWord, formAt, plain as Arguments·plain, alone as Arguments·alone, withFile, overNone};
+ghost use lib.ListN.{length};
+ghost use Rattle.fields.specs.Words.{namedAt, NoneBelow};
+ghost use Rattle.forms.specs.Arguments.{words, wordOf, optionAt, formAt, plain as Arguments·plain, alone as Arguments·alone, withFile, overNone};
+ghost use Rattle.forms.specs.inner.Seen.{noWords, firstWith, optionWith, withWord};
 
 // What a word of the arguments is.
 pub enum Word {
@@ -43,30 +46,35 @@ pub enum Form {
     Wrong,
 }
 
-// The word where the text is this name, else what it was found to be before.
-fn word_if(other: Word, text: &[u8], name: &[u8], word: Word) -> Word
-    ensures { λ r. ⌜ r ≡ namedOf other (now (text .entry)) (now (name .entry)) word ⌝ }
+// No word of ours: the place is past the table.
+fn unnamed(p: usize) -> Word
+    requires { ⌜ NoneBelow (length words) p ⌝ }
+    ensures { λ r. ⌜ r ≡ namedAt words Word.Other p ⌝ }
 {
-    if check::same(text, name) { word } else { other }
+    Word::Other
 }
 
-// What a word about the program is.
-fn about_of(text: &[u8]) -> Word
-    ensures { λ r. ⌜ r ≡ aboutOf (now (text .entry)) ⌝ }
+// What the word at a place of the table is.
+fn word_at(p: usize) -> Word
+    ensures { λ r. ⌜ r ≡ namedAt words Word.Other p ⌝ }
 {
-    let word = word_if(Word::Other, text, b"--version", Word::Version);
-    let word = word_if(word, text, b"-h", Word::Help);
-    word_if(word, text, b"--help", Word::Help)
+    match p {
+        0 => Word::Ask,
+        1 => Word::Walk,
+        2 => Word::Sheet,
+        3 => Word::Option,
+        4 => Word::Help,
+        5 => Word::Help,
+        6 => Word::Version,
+        _ => unnamed(p),
+    }
 }
 
 // What a word is.
 fn word_of(text: &[u8]) -> Word
     ensures { λ r. ⌜ r ≡ wordOf (now (text .entry)) ⌝ }
 {
-    let word = word_if(about_of(text), text, b"--sheet", Word::Option);
-    let word = word_if(word, text, b"sheet", Word::Sheet);
-    let word = word_if(word, text, b"walk", Word::Walk);
-    word_if(word, text, b"ask", Word::Ask)
+    word_at(fields::position_in(text, b"ask\twalk\tsheet\t--sheet\t--help\t-h\t--version"))
 }
 
 // No word seen.

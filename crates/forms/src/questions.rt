@@ -10,7 +10,7 @@ ghost use Rattle.text.specs.Put.{Put};
 ghost use Rattle.console.specs.Limits.{pageRoom};
 ghost use Rattle.console.specs.Answers.{Judged};
 ghost use Rattle.forms.specs.Limits.{keptNumbers, keptLines};
-ghost use Rattle.forms.specs.Questions.{oneMore, keptLine, withNext, numbersNext, withLine, numbersWith, questionPage};
+ghost use Rattle.forms.specs.inner.Taking.{oneMore, keptLine, withNext, numbersNext, withLine, numbersWith, questionPage};
 
 // The start and the steps of a walk that is one step too long: where the list is full, document 01 refuses the walk with 13.
 const KEPT_LINES: u64 = walk::MOST_STEPS as u64 + 2;

@@ -1,114 +1,21 @@
--- `request_of`: the word is held to each request about air in turn (`same-is`), and then to those about a gas.
-use Rattle.console.specs.AnswersLaws.{same-is}
-use Rattle.console.specs.Requests.{requestOf, airHeatWord, airPsiWord, airCpWord, airTemperatureWord}
-use mathlib.Core.Path.{refl}
+-- `request_of`: what stands in the table at the place of the word.
+use mathlib.Core.Path.{_∙_, ap}
 use borrow.Author.Needs.{needs}
+use Rattle.fields.specs.Words.{namedAt}
+use Rattle.console.specs.declared.requests.Request.the-variants.{Unknown}
+use Rattle.console.specs.Requests.{requests, requestOf}
 use Rattle.console.proofs.requests.request_of.Statement.{statement}
 use Rattle.console.proofs.requests.request_of.Tie as tie
 
-slice-aggregate-same : tie.Need-slice-aggregate-same
-slice-aggregate-same c = search needs
+position-requires : tie.Need-position-requires
+position-requires c κs = search needs
 
-same-requires : tie.Need-same-requires
-same-requires c κs = search needs
+request-at-requires : tie.Need-request-at-requires
+request-at-requires c κs = search needs
 
 returns : tie.Need-returns
 unfolding requestOf
-returns c = rw (same-is (c .before .before .before .before .args .word .now) airHeatWord (c .before .same .ensures) (c .if1 .taken)) refl
-
-slice-aggregate-same-2 : tie.Need-slice-aggregate-same-2
-slice-aggregate-same-2 c = search needs
-
-same-requires-2 : tie.Need-same-requires-2
-same-requires-2 c κs = search needs
-
-returns-2 : tie.Need-returns-2
-unfolding requestOf
-returns-2 c =
-    let at-if1 = c .before .before .before in
-    let at-same = at-if1 .before in
-    let at-start = at-same .before .before .before in
-    rw (same-is (at-start .args .word .now) airHeatWord (at-same .same .ensures) (at-if1 .if1 .left), same-is (at-start .args .word .now) airPsiWord (c .before .same2 .ensures) (c .if2 .taken)) refl
-
-slice-aggregate-same-3 : tie.Need-slice-aggregate-same-3
-slice-aggregate-same-3 c = search needs
-
-same-requires-3 : tie.Need-same-requires-3
-same-requires-3 c κs = search needs
-
-returns-3 : tie.Need-returns-3
-unfolding requestOf
-returns-3 c =
-    let at-if2 = c .before .before .before in
-    let at-same2 = at-if2 .before in
-    let at-if1 = at-same2 .before .before in
-    let at-same = at-if1 .before in
-    let at-start = at-same .before .before .before in
-    rw (
-      same-is (at-start .args .word .now) airHeatWord (at-same .same .ensures) (at-if1 .if1 .left),
-      same-is (at-start .args .word .now) airPsiWord (at-same2 .same2 .ensures) (at-if2 .if2 .left),
-      same-is (at-start .args .word .now) airCpWord (c .before .same3 .ensures) (c .if3 .taken),
-    ) refl
-
-slice-aggregate-same-4 : tie.Need-slice-aggregate-same-4
-slice-aggregate-same-4 c = search needs
-
-same-requires-4 : tie.Need-same-requires-4
-same-requires-4 c κs = search needs
-
-returns-4 : tie.Need-returns-4
-unfolding requestOf
-returns-4 c =
-    let at-if3 = c .before .before .before in
-    let at-same3 = at-if3 .before in
-    let at-if2 = at-same3 .before .before in
-    let at-same2 = at-if2 .before in
-    let at-if1 = at-same2 .before .before in
-    let at-same = at-if1 .before in
-    let at-start = at-same .before .before .before in
-    rw (
-      same-is (at-start .args .word .now) airHeatWord (at-same .same .ensures) (at-if1 .if1 .left),
-      same-is (at-start .args .word .now) airPsiWord (at-same2 .same2 .ensures) (at-if2 .if2 .left),
-      same-is (at-start .args .word .now) airCpWord (at-same3 .same3 .ensures) (at-if3 .if3 .left),
-      same-is (at-start .args .word .now) airTemperatureWord (c .before .same4 .ensures) (c .if4 .taken),
-    ) refl
-
-gas-request-requires : tie.Need-gas-request-requires
-gas-request-requires c κs = search needs
-
-returns-5 : tie.Need-returns-5
-unfolding requestOf
-returns-5 c =
-    let at-if3 = c .before .before .before .before in
-    let at-same3 = at-if3 .before in
-    let at-if2 = at-same3 .before .before in
-    let at-same2 = at-if2 .before in
-    let at-if1 = at-same2 .before .before in
-    let at-same = at-if1 .before in
-    let at-start = at-same .before .before .before in
-    rw (
-      same-is (at-start .args .word .now) airHeatWord (at-same .same .ensures) (at-if1 .if1 .left),
-      same-is (at-start .args .word .now) airPsiWord (at-same2 .same2 .ensures) (at-if2 .if2 .left),
-      same-is (at-start .args .word .now) airCpWord (at-same3 .same3 .ensures) (at-if3 .if3 .left),
-      same-is (at-start .args .word .now) airTemperatureWord (c .before .before .same4 .ensures) (c .before .if4 .left),
-    )
-    (c .gas-request .ensures)
+returns c = c .request-at .ensures ∙ ap (namedAt requests Unknown) (c .before .position .ensures)
 
 pub request-of-spec : {M : Type 1} → statement M
-request-of-spec =
-    tie.close
-    (tie.spec
-    slice-aggregate-same
-    same-requires
-    returns
-    slice-aggregate-same-2
-    same-requires-2
-    returns-2
-    slice-aggregate-same-3
-    same-requires-3
-    returns-3
-    slice-aggregate-same-4
-    same-requires-4
-    returns-4
-    gas-request-requires
-    returns-5)
+request-of-spec = tie.close (tie.spec position-requires request-at-requires returns)
