@@ -5,7 +5,7 @@ use forms::arguments::Words;
 ghost use mathlib.Core.Path.{_≡_};
 ghost use Prim.Native.Nat.{_≤_};
 ghost use lib.ListN.{length};
-ghost use Rattle.desk.specs.Sheets.{shownByte};
+ghost use Rattle.desk.specs.Names.{shownByte};
 
 // The words with the one that an argument is. One that is too long to be had is no word of a form.
 fn see(words: Words, i: usize) -> Words {

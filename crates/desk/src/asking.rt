@@ -3,8 +3,8 @@
 use crate::lines;
 use libc::STDIN_FILENO;
 use sheet::SheetAnswer;
-use stream::Got;
 use stream::Held;
+use stream::Line;
 use stream::Output;
 ghost use mathlib.Core.Path.{_≡_};
 ghost use Prim.Native.Nat.{_+_, _*_, _≤_};
@@ -16,12 +16,6 @@ ghost use Rattle.desk.specs.Limits.{outputRoom};
 
 // answers are written where they fill half of this
 const OUTPUT: usize = 8 * console::ANSWER_ROOM;
-
-// A line that is still read, with the output.
-struct Turn {
-    held: Held,
-    output: Output,
-}
 
 // Places for the answers.
 fn output() -> [u8; OUTPUT]
@@ -43,7 +37,7 @@ pub(crate) fn ask(
     let mut piece = io::large_buffer();
     let mut line = lines::places();
     let mut out = output();
-    let turn = answer_input(
+    answer_lines(
         verdict,
         sheet,
         air,
@@ -53,12 +47,10 @@ pub(crate) fn ask(
         &mut line,
         &mut out,
     );
-    answer_last(turn, &line, verdict, sheet, air, psis, cps, &mut out);
 }
 
-// Answers the lines of standard input that a line feed ends. A proved loop has to end, and nothing says that the input does: so it counts its turns down, from a number that
-// no run uses up.
-fn answer_input(
+// Answers the lines of standard input one after the other; its turns are counted down.
+fn answer_lines(
     verdict: SheetAnswer,
     sheet: &[u32],
     air: &[u32; rows::ROWS],
@@ -67,94 +59,38 @@ fn answer_input(
     piece: &mut [u8],
     line: &mut [u8],
     out: &mut [u8],
-) -> Turn
+)
     requires { ⌜ Judged verdict (now sheet) × (2 * answerRoom ≤ length (now out)) × Columns (now air) (now psis) (now cps) ⌝ }
-    ensures { λ r. ⌜ Free (r .output) (now (out .exit)) ⌝ }
 {
-    let mut turn = Turn {
-        held: Held::Bytes(0),
-        output: Output::At(0),
-    };
+    let mut reader = stream::unread();
+    let mut output = Output::At(0);
     let mut turns = u64::MAX;
     while turns > 0 {
         turns -= 1;
-        match stream::read_some(STDIN_FILENO, b"standard input", piece) {
-            Got::Bytes(n) => {
-                turn = answer_piece(turn, &piece[..n], verdict, sheet, air, psis, cps, line, out);
-                let output = turn.output;
-                turns = stream::turns_left(turns, output);
+        let next = stream::next_line(
+            STDIN_FILENO,
+            b"standard input",
+            reader,
+            piece,
+            line,
+            out,
+            output,
+        );
+        reader = next.reader;
+        output = next.output;
+        let found = next.line;
+        match found {
+            Line::Of(held) => {
+                output = answer_held(held, line, verdict, sheet, air, psis, cps, out, output);
             }
-            Got::End => {
+            Line::End => {
                 turns = 0;
             }
-            Got::Failed => {
-                let output = turn.output;
-                turn = Turn {
-                    held: Held::Bytes(0),
-                    output,
-                };
+            Line::Unread => {
                 turns = 0;
             }
         }
     }
-    turn
-}
-
-// Answers the lines that end in a piece, and writes the answers.
-fn answer_piece(
-    turn: Turn,
-    piece: &[u8],
-    verdict: SheetAnswer,
-    sheet: &[u32],
-    air: &[u32; rows::ROWS],
-    psis: &[u32; rows::ROWS],
-    cps: &[u32; rows::ROWS],
-    line: &mut [u8],
-    out: &mut [u8],
-) -> Turn
-    requires { ⌜ Judged verdict (now sheet) × (2 * answerRoom ≤ length (now out)) × Free (turn .output) (now out) × Columns (now air) (now psis) (now cps) ⌝ }
-    ensures { λ r. ⌜ Leaves (turn .output) (now (out .entry)) (r .output) (now (out .exit)) ⌝ }
-{
-    let mut held = turn.held;
-    let mut output = turn.output;
-    let mut from = 0;
-    while from < piece.len() {
-        let taken = stream::take_line(held, piece, from, line);
-        held = taken.held;
-        from = taken.next;
-        if taken.whole {
-            output = answer_held(held, line, verdict, sheet, air, psis, cps, out, output);
-            held = Held::Bytes(0);
-        }
-    }
-    Turn {
-        held,
-        output: stream::flush(out, output),
-    }
-}
-
-// Answers a last line that no line feed ended.
-fn answer_last(
-    turn: Turn,
-    line: &[u8],
-    verdict: SheetAnswer,
-    sheet: &[u32],
-    air: &[u32; rows::ROWS],
-    psis: &[u32; rows::ROWS],
-    cps: &[u32; rows::ROWS],
-    out: &mut [u8],
-)
-    requires { ⌜ Judged verdict (now sheet) × (2 * answerRoom ≤ length (now out)) × Free (turn .output) (now out) × Columns (now air) (now psis) (now cps) ⌝ }
-{
-    let held = turn.held;
-    if let Held::Bytes(n) = held {
-        if n == 0 {
-            return;
-        }
-    }
-    let output = turn.output;
-    let last = answer_held(held, line, verdict, sheet, air, psis, cps, out, output);
-    stream::flush(out, last);
 }
 
 // Answers the line that is held, and writes the answers where they fill half of the output. No answer is longer than `answerRoom` (`answer-short` of the console), so none is cut.

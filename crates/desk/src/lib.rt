@@ -12,7 +12,7 @@ use forms::arguments::Form;
 use forms::arguments::Job;
 use forms::arguments::Named;
 use sheet::SheetAnswer;
-use sheets::Text;
+use stream::Text;
 ghost use Rattle.console.specs.Answers.{Columns, Judged};
 
 // Does what the arguments ask for.

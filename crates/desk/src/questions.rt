@@ -9,8 +9,8 @@ use forms::questions;
 use forms::questions::Question;
 use libc::STDIN_FILENO;
 use sheet::SheetAnswer;
-use stream::Got;
 use stream::Held;
+use stream::Line;
 use stream::Output;
 ghost use Prim.Native.Nat.{_≤_};
 ghost use mathlib.Core.Path.{_≡_};
@@ -24,12 +24,6 @@ ghost use Rattle.forms.specs.Limits.{keptNumbers};
 enum Input {
     Question(Question),
     Unread,
-}
-
-// A line that is still read, with the question.
-struct Turn {
-    held: Held,
-    question: Question,
 }
 
 // Prints the walk of the question in a file, or on standard input.
@@ -103,57 +97,29 @@ fn take_held(question: Question, held: Held, line: &[u8], numbers: &mut [i64]) -
     }
 }
 
-// The question with the lines that end in a piece.
-fn take_piece(turn: Turn, piece: &[u8], line: &mut [u8], numbers: &mut [i64]) -> Turn {
-    let mut held = turn.held;
-    let mut question = turn.question;
-    let mut from = 0;
-    while from < piece.len() {
-        let taken = stream::take_line(held, piece, from, line);
-        held = taken.held;
-        from = taken.next;
-        if taken.whole {
-            question = take_held(question, held, line, numbers);
-            held = Held::Bytes(0);
-        }
-    }
-    Turn { held, question }
-}
-
-// The question with a last line that no line feed ended.
-fn take_last(turn: Turn, line: &[u8], numbers: &mut [i64]) -> Question {
-    let held = turn.held;
-    let question = turn.question;
-    if let Held::Bytes(n) = held {
-        if n == 0 {
-            return question;
-        }
-    }
-    take_held(question, held, line, numbers)
-}
-
 // The whole question of an input, its turns counted down.
 fn read_all(fd: i32, name: &[u8], piece: &mut [u8], line: &mut [u8], numbers: &mut [i64]) -> Input {
-    let mut turn = Turn {
-        held: Held::Bytes(0),
-        question: Question::Good(0),
-    };
+    let mut question = Question::Good(0);
+    let mut reader = stream::unread();
     let mut turns = u64::MAX;
     while turns > 0 {
         turns -= 1;
-        match stream::read_some(fd, name, piece) {
-            Got::Bytes(n) => {
-                turn = take_piece(turn, &piece[..n], line, numbers);
+        let next = stream::next_line(fd, name, reader, piece, line, b"", Output::At(0));
+        reader = next.reader;
+        let found = next.line;
+        match found {
+            Line::Of(held) => {
+                question = take_held(question, held, line, numbers);
             }
-            Got::End => {
+            Line::End => {
                 turns = 0;
             }
-            Got::Failed => {
+            Line::Unread => {
                 return Input::Unread;
             }
         }
     }
-    Input::Question(take_last(turn, line, numbers))
+    Input::Question(question)
 }
 
 // Places for a printed walk.

@@ -3,48 +3,11 @@ use crate::arguments;
 use crate::pages;
 use refusal::Refusal;
 use sheet::SheetAnswer;
-use stream::Got;
 use stream::Output;
+use stream::Text;
 ghost use Prim.Native.Nat.{_≤_};
 ghost use lib.ListN.{length};
-ghost use Rattle.desk.specs.Sheets.{Filled};
-
-// How many bytes of a file stand in the buffer, or that it could not be read.
-pub(crate) enum Text {
-    Bytes(usize),
-    Unread,
-}
-
-// Fills the buffer from a file, up to the file's end or its own. A failure's line shows the file's name.
-fn fill(fd: i32, name: &[u8], piece: &mut [u8], bytes: &mut [u8]) -> Text
-    ensures { λ r. ⌜ Filled r (now (bytes .exit)) ⌝ }
-{
-    let mut n = 0;
-    let mut turns = u64::MAX;
-    while turns > 0 {
-        turns -= 1;
-        match stream::read_some(fd, name, piece) {
-            Got::Bytes(more) => {
-                n = text::put_text(&piece[..more], bytes, n);
-                turns = turns_left(turns, n, bytes.len());
-            }
-            Got::End => {
-                turns = 0;
-            }
-            Got::Failed => {
-                return Text::Unread;
-            }
-        }
-    }
-    Text::Bytes(n)
-}
-
-// No turn is left where the buffer is full.
-fn turns_left(turns: u64, n: usize, places: usize) -> u64
-    ensures { λ r. ⌜ r ≤ turns ⌝ }
-{
-    if n < places { turns } else { 0 }
-}
+ghost use Rattle.stream.specs.Reading.{Filled};
 
 // Reads the file that an argument names into the buffer.
 pub(crate) fn read(i: usize, bytes: &mut [u8]) -> Text
@@ -56,8 +19,7 @@ pub(crate) fn read(i: usize, bytes: &mut [u8]) -> Text
     if fd < 0 {
         return Text::Unread;
     }
-    let mut piece = io::large_buffer();
-    let text = fill(fd, &name[..n], &mut piece, bytes);
+    let text = stream::fill(fd, &name[..n], bytes);
     libc::close(fd);
     text
 }

@@ -1,4 +1,6 @@
 pub mod Taking
+pub mod Reading
+pub mod ReadingLaws
 pub mod TakingLaws
 pub mod Writing
 pub mod WritingLaws

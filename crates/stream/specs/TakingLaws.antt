@@ -1,6 +1,6 @@
 -- Laws of taking lines: a taking goes on, so that a piece comes to its end; a line that fits is held byte for byte, and one that does not is too long. Assumes nothing.
 use Prim.Native.Nat.{ℕ, suc, _+_, _<_, _≤_}
-use mathlib.Core.Bool.{Bool, true, false, cond}
+use mathlib.Core.Bool.{Bool, true, false}
 use mathlib.Core.List.{List, [], _∷_}
 use mathlib.Core.Path.{_≡_, refl, ap, _∙_}
 use native.Mathlib.Omega.{arith}
@@ -11,8 +11,7 @@ use lib.ListN.{length, drop, getD, set, length-set, length-drop}
 use lib.Seq.{sets, drop-cons}
 use Rattle.stream.specs.declared.Held.{Held}
 use Rattle.stream.specs.declared.Held.the-variants.{Bytes, Over}
-use Rattle.stream.specs.declared.Taken.{Taken}
-use Rattle.stream.specs.Taking.{lineIn, ends, pushedAll, Takes}
+use Rattle.stream.specs.Taking.{lineIn, ends, pushedAll}
 
 -- ---- from a place inside a piece: its byte is a line feed, or one of the line
 module _ (piece : List ℕ) (i : ℕ) (h : i < length piece) where
@@ -35,18 +34,6 @@ none-left piece i h = none (drop i piece) (omega (arith, length-drop i piece))
     none : (x : List ℕ) → length x ≡ 0 → x ≡ []
     none [] e = refl
     none (a ∷ x) e = absurd (omega arith)
-
--- ---- a taking goes on
-pub goes-on : {held : Held} {piece before after : List ℕ} {from : ℕ} {r : Taken} → Takes held piece from before r after → from < length piece → from < r .next
-goes-on {piece} {from} t h = rw (t .next) (go (drop from piece) (omega (arith, length-drop from piece)))
-  where
-    go : (x : List ℕ) → 0 < length x → from < from + length (lineIn x) + cond (ends x) 1 0
-    go [] p = absurd (omega arith)
-    go (b ∷ bs) p = split (eqb b 10)
-      where
-        split : (t : Bool) → from < from + length (cond t [] (b ∷ lineIn bs)) + cond (cond t true (ends bs)) 1 0
-        split true = omega arith
-        split false = omega arith
 
 -- ---- a line that fits is held byte for byte
 pub line-held : (n : ℕ) (buffer t : List ℕ) → n + length t ≤ length buffer → pushedAll (Bytes n) buffer t ≡ record { held = Bytes (n + length t); buffer = sets buffer n t }

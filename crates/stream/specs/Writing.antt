@@ -50,8 +50,3 @@ StaysClosed Closed before r later = (r ≡ Closed) × (later ≡ before)
 pub record Leaves (output : Output) (before : List ℕ) (r : Output) (later : List ℕ) : Type 0 where
   pub free : Free r later
   pub closed : StaysClosed output before r later
-
--- a loop that reads has no turn left where the output is closed
-abbrev pub turnsLeft : ℕ → Output → ℕ
-turnsLeft turns (At n) = turns
-turnsLeft turns Closed = 0

@@ -12,7 +12,7 @@ use Rattle.stream.specs.declared.Output.{Output}
 use Rattle.stream.specs.declared.Output.the-variants.{At, Closed}
 use Rattle.stream.specs.declared.Wrote.{Wrote}
 use Rattle.stream.specs.declared.Wrote.the-variants.{Took, Nothing, Failed}
-use Rattle.stream.specs.Writing.{outcomeOf, Within, afterWrite, Flushed, Roomed, Free, StaysClosed, Leaves, turnsLeft}
+use Rattle.stream.specs.Writing.{outcomeOf, Within, afterWrite, Flushed, Roomed, Free, StaysClosed, Leaves}
 
 -- what was counted lies in the part
 pub outcome-within : (part : List ℕ) (taken : ℕ) (again : Bool) → taken ≤ length part → Within (outcomeOf taken again) part
@@ -63,18 +63,16 @@ stays-on Closed Closed q a b c h k = (k .0, k .1 ∙ h .1)
 pub leaves-same : (o : Output) (out : List ℕ) → Free o out → Leaves o out o out
 leaves-same o out f = record { free = f; closed = stays-same o out }
 
-pub leaves-on : {o p q : Output} {a b c : List ℕ} → Leaves o a p b → Leaves p b q c → Leaves o a q c
+leaves-on : {o p q : Output} {a b c : List ℕ} → Leaves o a p b → Leaves p b q c → Leaves o a q c
 leaves-on {o} {p} {q} {a} {b} {c} h k = record { free = k .free; closed = stays-on o p q a b c (h .closed) (k .closed) }
 
 -- an output that is open may go on anywhere where half of the buffer is free
 pub leaves-open : {o : Output} {n : ℕ} (r : Output) (before later : List ℕ) → o ≡ At n → Free r later → Leaves o before r later
 leaves-open r before later e f = record { free = f; closed = rw e tt }
 
-pub flushed-leaves : (o r : Output) (out : List ℕ) → Flushed o r → Leaves o out r out
+flushed-leaves : (o r : Output) (out : List ℕ) → Flushed o r → Leaves o out r out
 flushed-leaves (At n) r out f = record { free = flushed-free out n r f; closed = tt }
 flushed-leaves Closed r out f = record { free = subst (λ (o : Output). Free o out) (sym f) tt; closed = (f, refl) }
 
--- no turn is added
-pub turns-most : (turns : ℕ) (o : Output) → turnsLeft turns o ≤ turns
-turns-most turns (At n) = omega arith
-turns-most turns Closed = omega arith
+pub leaves-flushed : {o p r : Output} {a b : List ℕ} → Leaves o a p b → Flushed p r → Leaves o a r b
+leaves-flushed {p} {r} {b} h f = leaves-on h (flushed-leaves p r b f)

@@ -1,10 +1,11 @@
-// Lines from standard input and answers to standard output, for the programs. How a line is taken from the pieces that are read is promised by an equation
+// Lines from an input, whole files, and answers to standard output, for the programs. How a line is taken from the pieces that are read is promised by an equation
 // (specs/Taking.antt), and so is that a failed write closes the output for good (specs/Writing.antt). No contract can say what is read or written.
 ghost use mathlib.Core.Path.{_≡_};
 ghost use Prim.Native.Nat.{_≤_};
 ghost use lib.ListN.{length};
 ghost use Rattle.stream.specs.Taking.{pushed, Takes, Inside};
-ghost use Rattle.stream.specs.Writing.{outcomeOf, Within, afterWrite, Flushed, Roomed, turnsLeft};
+ghost use Rattle.stream.specs.Reading.{nothingRead, Reads, lastLine, overWith, Filled};
+ghost use Rattle.stream.specs.Writing.{outcomeOf, Within, afterWrite, Flushed, Roomed, Free, Leaves};
 use libc::EAGAIN;
 use libc::EINTR;
 use libc::STDERR_FILENO;
@@ -17,7 +18,7 @@ pub enum Held {
 }
 
 // What was taken of a piece of the input: the line so far, the place after it, and whether a line feed ended it.
-pub struct Taken {
+struct Taken {
     pub held: Held,
     pub next: usize,
     pub whole: bool,
@@ -39,7 +40,7 @@ fn push(held: Held, b: u8, line: &mut [u8]) -> Held
 }
 
 // Takes the bytes of a piece from `from` on, up to the end of the line that is held or of the piece.
-pub fn take_line(held: Held, piece: &[u8], from: usize, line: &mut [u8]) -> Taken
+fn take_line(held: Held, piece: &[u8], from: usize, line: &mut [u8]) -> Taken
     ensures { λ r. ⌜ Takes held (now (piece .entry)) from (now (line .entry)) r (now (line .exit)) ⌝ }
 {
     let mut held = held;
@@ -64,14 +65,14 @@ pub fn take_line(held: Held, piece: &[u8], from: usize, line: &mut [u8]) -> Take
 }
 
 // What a read gave: so many bytes of the piece, the end of the input, or nothing, after a line on standard error.
-pub enum Got {
+enum Got {
     Bytes(usize),
     End,
     Failed,
 }
 
 // Reads a piece of an input, which a failure's line names.
-pub fn read_some(fd: i32, what: &[u8], piece: &mut [u8]) -> Got
+fn read_some(fd: i32, what: &[u8], piece: &mut [u8]) -> Got
     ensures { λ r. ⌜ Inside r (now (piece .exit)) ⌝ }
 {
     let got = libc::read(fd, piece);
@@ -188,16 +189,6 @@ pub fn make_room(out: &[u8], output: Output) -> Output
     flush(out, Output::At(at))
 }
 
-// How many turns a loop that reads has left: none where the output is closed.
-pub fn turns_left(turns: u64, output: Output) -> u64
-    ensures { λ r. ⌜ r ≡ turnsLeft turns output ⌝ }
-{
-    match output {
-        Output::At(_) => turns,
-        Output::Closed => 0,
-    }
-}
-
 // Writes what is filled of a buffer to standard error. Nothing is left to say where that fails.
 pub fn say(out: &[u8], at: usize) {
     write_first(STDERR_FILENO, out, bounded(at, out));
@@ -208,4 +199,163 @@ fn bounded(at: usize, out: &[u8]) -> usize
     ensures { λ r. ⌜ r ≤ length (now (out .entry)) ⌝ }
 {
     if at < out.len() { at } else { out.len() }
+}
+
+// An input that is read in pieces: the bytes of the last piece that are left, and whether the input has ended.
+pub struct Reader {
+    pub from: usize,
+    pub end: usize,
+    pub ended: bool,
+}
+
+// The next line of an input, that there is none, or that the input could not be read or nobody takes the answers any more.
+pub enum Line {
+    Of(Held),
+    End,
+    Unread,
+}
+
+// A line, with the input and the output after it.
+pub struct Next {
+    pub line: Line,
+    pub reader: Reader,
+    pub output: Output,
+}
+
+// An input of which nothing is read.
+pub fn unread() -> Reader
+    ensures { λ r. ⌜ r ≡ nothingRead ⌝ }
+{
+    Reader {
+        from: 0,
+        end: 0,
+        ended: false,
+    }
+}
+
+// Reads the next piece; none after the input's end, nor where the output is closed.
+fn read_next(fd: i32, what: &[u8], piece: &mut [u8], ended: bool, output: Output) -> Got
+    ensures { λ r. ⌜ Reads ended output (now (piece .entry)) r (now (piece .exit)) ⌝ }
+{
+    if ended {
+        return Got::End;
+    }
+    match output {
+        Output::At(_) => read_some(fd, what, piece),
+        Output::Closed => Got::Failed,
+    }
+}
+
+// The last line of an input, where bytes of one are held.
+fn last_line(held: Held) -> Line
+    ensures { λ r. ⌜ r ≡ lastLine held ⌝ }
+{
+    match held {
+        Held::Bytes(n) => if n == 0 { Line::End } else { Line::Of(held) },
+        Held::Over => Line::Of(held),
+    }
+}
+
+// No further line of an input: its reader is at the end.
+fn over(line: Line, output: Output) -> Next
+    ensures { λ r. ⌜ r ≡ overWith line output ⌝ }
+{
+    Next {
+        line,
+        reader: Reader {
+            from: 0,
+            end: 0,
+            ended: true,
+        },
+        output,
+    }
+}
+
+// The next line of an input. Before each read what is filled of the output is written, so that whoever asks has the answers. A proved loop has to end, and nothing says
+// that the input does: so it counts its turns down, from a number that no run uses up.
+pub fn next_line(
+    fd: i32,
+    what: &[u8],
+    reader: Reader,
+    piece: &mut [u8],
+    line: &mut [u8],
+    out: &[u8],
+    output: Output,
+) -> Next
+    requires { ⌜ (reader .end ≤ length (now piece)) × Free output (now out) ⌝ }
+    ensures { λ r. ⌜ (r .reader .end ≤ length (now (piece .exit))) × Leaves output (now (out .entry)) (r .output) (now (out .exit)) ⌝ }
+{
+    let mut held = Held::Bytes(0);
+    let mut reader = reader;
+    let mut output = output;
+    let mut turns = u64::MAX;
+    while turns > 0 {
+        turns -= 1;
+        let end = reader.end;
+        let ended = reader.ended;
+        let taken = take_line(held, &piece[..end], reader.from, line);
+        held = taken.held;
+        if taken.whole {
+            reader = Reader {
+                from: taken.next,
+                end,
+                ended,
+            };
+            let line = Line::Of(held);
+            return Next {
+                line,
+                reader,
+                output,
+            };
+        }
+        output = flush(out, output);
+        match read_next(fd, what, piece, ended, output) {
+            Got::Bytes(n) => {
+                reader = Reader {
+                    from: 0,
+                    end: n,
+                    ended: false,
+                };
+            }
+            Got::End => {
+                return over(last_line(held), output);
+            }
+            Got::Failed => {
+                return over(Line::Unread, output);
+            }
+        }
+    }
+    over(Line::Unread, output)
+}
+
+// How many bytes of a file stand in the buffer, or that it could not be read.
+pub enum Text {
+    Bytes(usize),
+    Unread,
+}
+
+// Fills the buffer from a file, up to the file's end or its own. A failure's line shows the file's name.
+pub fn fill(fd: i32, what: &[u8], bytes: &mut [u8]) -> Text
+    ensures { λ r. ⌜ Filled r (now (bytes .exit)) ⌝ }
+{
+    let mut n = 0;
+    let mut turns = u64::MAX;
+    while turns > 0 {
+        turns -= 1;
+        if n >= bytes.len() {
+            return Text::Bytes(n);
+        }
+        match read_some(fd, what, &mut bytes[n..]) {
+            Got::Bytes(more) => {
+                n += more;
+            }
+            Got::End => {
+                return Text::Bytes(n);
+            }
+            Got::Failed => {
+                return Text::Unread;
+            }
+        }
+    }
+    Text::Bytes(n)
 }

@@ -1,51 +1,40 @@
--- `read_all`: what is taken of each piece is inside it, and it ends.
--- Invariant: the buffers and the list keep their lengths. Measure: the turns, which every turn counts down.
-use lib.ListN.{length-take}
-use Rattle.stream.specs.declared.Got.{Got}
-use Rattle.stream.specs.Taking.{Inside}
-use mathlib.Core.Path.{subst}
-use borrow.Author.Needs.{needs}
-use native.Mathlib.Omega.{arith}
-use mathlib.Core.Path.{_≡_}
-use Prim.Native.Nat.{_-_, _≤_}
+-- `read_all`: each line of the input is taken in turn, up to its end.
+-- Invariant: the buffers and the list keep their lengths, and what is left of a piece stands in it. Measure: the turns, which every turn counts down.
+use mathlib.Core.Path.{_≡_, refl}
+use Prim.Native.Nat.{_≤_}
 use lib.ListN.{length}
+use native.Mathlib.Omega.{arith}
+use borrow.Author.Needs.{needs}
 use Rattle.desk.proofs.questions.read_all.Statement.{statement}
 use Rattle.desk.proofs.questions.read_all.Tie as tie
 
 abbrev Inv-loop : tie.InvT-loop
-Inv-loop fd name piece₀ line₀ numbers₀ turn₀ turns₀ piece line numbers turn turns = (length line ≡ length line₀) × (length numbers ≡ length numbers₀) × (length piece ≡ length piece₀)
+Inv-loop fd name piece₀ line₀ numbers₀ question₀ reader₀ turns₀ t12 piece line numbers question reader turns =
+    (length line ≡ length line₀) × (length numbers ≡ length numbers₀) × (length piece ≡ length piece₀) × (reader .end ≤ length piece)
 
 abbrev μ-loop : tie.MeasureT-loop
-μ-loop fd name piece₀ line₀ numbers₀ turn₀ turns₀ piece line numbers turn turns = turns
+μ-loop fd name piece₀ line₀ numbers₀ question₀ reader₀ turns₀ t12 piece line numbers question reader turns = turns
+
+unread-requires : tie.Need-unread-requires Inv-loop μ-loop
+unread-requires c κs = search needs
 
 loop-holds : tie.Need-loop-holds Inv-loop μ-loop
-loop-holds c = search needs
+loop-holds c = (refl, refl, refl, rw (c .unread .ensures) (omega arith))
 
 sub-turns : tie.Need-sub-turns Inv-loop μ-loop
 sub-turns c = search needs
 
-read-some-requires : tie.Need-read-some-requires Inv-loop μ-loop
-read-some-requires c κs = search needs
+slice-aggregate-next-line : tie.Need-slice-aggregate-next-line Inv-loop μ-loop
+slice-aggregate-next-line c = search needs
 
-enum-known-n : tie.Need-enum-known-n Inv-loop μ-loop
-enum-known-n c = search needs
+next-line-requires : tie.Need-next-line-requires Inv-loop μ-loop
+next-line-requires c κs = search needs
 
-slice-reshare-prefix-take-piece : tie.Need-slice-reshare-prefix-take-piece Inv-loop μ-loop
-slice-reshare-prefix-take-piece c =
-    let at-read-some = c .before .before .before .before .before in
-    let h : c .before .n .given .0 .0 ≤ length (at-read-some .read-some .last .1 .1 .0) =
-    subst (λ (g : Got). Inside g (at-read-some .read-some .last .1 .1 .0)) (c .before .n .given .1) (at-read-some .read-some .ensures) in
-    omega arith
+enum-known-found : tie.Need-enum-known-found Inv-loop μ-loop
+enum-known-found c = search needs
 
-slice-aggregate-take-piece : tie.Need-slice-aggregate-take-piece Inv-loop μ-loop
-slice-aggregate-take-piece c =
-    let at-read-some = c .before .before .before .before .before .before in
-    let h : c .before .before .n .given .0 .0 ≤ length (at-read-some .read-some .last .1 .1 .0) =
-    subst (λ (g : Got). Inside g (at-read-some .read-some .last .1 .1 .0)) (c .before .before .n .given .1) (at-read-some .read-some .ensures) in
-    simp length-take (omega arith)
-
-take-piece-requires : tie.Need-take-piece-requires Inv-loop μ-loop
-take-piece-requires c κs = search needs
+take-held-requires : tie.Need-take-held-requires Inv-loop μ-loop
+take-held-requires c κs = search needs
 
 loop-less : tie.Need-loop-less Inv-loop μ-loop
 loop-less c = search needs
@@ -77,9 +66,6 @@ same-length-3 c = search needs
 returns : tie.Need-returns Inv-loop μ-loop
 returns c = search needs
 
-take-last-requires : tie.Need-take-last-requires Inv-loop μ-loop
-take-last-requires c κs = search needs
-
 same-length-4 : tie.Need-same-length-4 Inv-loop μ-loop
 same-length-4 c = search needs
 
@@ -98,13 +84,13 @@ read-all-spec =
     (tie.spec
     Inv-loop
     μ-loop
+    unread-requires
     loop-holds
     sub-turns
-    read-some-requires
-    enum-known-n
-    slice-reshare-prefix-take-piece
-    slice-aggregate-take-piece
-    take-piece-requires
+    slice-aggregate-next-line
+    next-line-requires
+    enum-known-found
+    take-held-requires
     loop-less
     loop-again
     enum-told
@@ -115,7 +101,6 @@ read-all-spec =
     same-length-2
     same-length-3
     returns
-    take-last-requires
     same-length-4
     same-length-5
     same-length-6

@@ -26,17 +26,11 @@ open-requires c κs = search needs
 returns : tie.Need-returns
 returns c = search needs
 
-large-buffer-requires : tie.Need-large-buffer-requires
-large-buffer-requires c κs = search needs
-
 array-share-prefix-name-2 : tie.Need-array-share-prefix-name-2
 array-share-prefix-name-2 c = search needs
 
 slice-aggregate-fill : tie.Need-slice-aggregate-fill
 slice-aggregate-fill c = simp length-take (omega arith)
-
-slice-aggregate-fill-2 : tie.Need-slice-aggregate-fill-2
-slice-aggregate-fill-2 c = search needs
 
 fill-requires : tie.Need-fill-requires
 fill-requires c κs = search needs
@@ -61,10 +55,8 @@ read-spec =
     slice-aggregate-open
     open-requires
     returns
-    large-buffer-requires
     array-share-prefix-name-2
     slice-aggregate-fill
-    slice-aggregate-fill-2
     fill-requires
     close-requires
     same-length

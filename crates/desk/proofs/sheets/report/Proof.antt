@@ -3,8 +3,8 @@ use mathlib.Core.Path.{subst}
 use Prim.Native.Nat.{_≤_}
 use lib.ListN.{length, length-take}
 use native.Mathlib.Omega.{arith}
-use Rattle.desk.specs.Sheets.{Filled}
-use Rattle.desk.specs.declared.sheets.Text.{Text}
+use Rattle.stream.specs.Reading.{Filled}
+use Rattle.stream.specs.declared.Text.{Text}
 use borrow.Author.Needs.{needs}
 use Rattle.desk.proofs.sheets.report.Statement.{statement}
 use Rattle.desk.proofs.sheets.report.Tie as tie
