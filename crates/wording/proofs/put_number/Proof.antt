@@ -1,5 +1,7 @@
--- `put_number`: a tab, then the number in decimal behind it (`put-then`).
+-- `put_number`: a tab, then the number in decimal behind it (`put-then`), and how long it is (`decimal-most`).
+use Rattle.text.specs.DigitsLaws.{decimal-most}
 use Rattle.text.specs.PutLaws.{put-then}
+use native.Mathlib.Omega.{arith}
 use borrow.Author.Needs.{needs}
 use Rattle.wording.proofs.put_number.Statement.{statement}
 use Rattle.wording.proofs.put_number.Tie as tie
@@ -14,7 +16,11 @@ same-length : tie.Need-same-length
 same-length c = search needs
 
 returns : tie.Need-returns
-returns c = (put-then (c .before .before .before .before .before .before .put-byte .ensures) (c .before .before .put-decimal .ensures))
+returns c =
+    let at-put-byte = c .before .before .before .before .before .before in
+    let at-start = at-put-byte .before .before .before in
+    let n = at-start .args .n in
+    record { put = put-then (at-put-byte .put-byte .ensures) (c .before .before .put-decimal .ensures); short = omega (arith, decimal-most n (at-start .fits .n)) }
 
 pub put-number-spec : {M : Type 1} → statement M
 put-number-spec = tie.close (tie.spec put-byte-requires put-decimal-requires same-length returns)
