@@ -1,6 +1,9 @@
--- `put_on_page`: the step's number, mK, rest and number of looks, then the line feed, each behind the one before (`put-then`).
-use Rattle.text.specs.PutLaws.{put-then}
+-- `put_on_page`: the step's number, mK, rest and number of looks, then the line feed, each behind the one before (`puts-then`), none longer than its word is (`decimal-most`).
+use Rattle.text.specs.PutsLaws.{puts-text, puts-then}
+use Rattle.text.specs.Puts.{Puts}
+use Rattle.text.specs.DigitsLaws.{decimal-most}
 use Rattle.signed.specs.Zed.{back}
+use native.Mathlib.Omega.{arith}
 use borrow.Author.Needs.{needs}
 use Rattle.console.proofs.walks.put_on_page.Statement.{statement}
 use Rattle.console.proofs.walks.put_on_page.Tie as tie
@@ -34,12 +37,13 @@ returns c =
     let at-put-signed = at-put-signed2 .before .before .before .before in
     let at-put-decimal = at-put-signed .before .before .before .before in
     let at-start = at-put-decimal .before .before .before .before in
-    put-then
-    (put-then
-    (put-then (put-then (at-put-decimal .put-decimal .ensures) (rw (back (at-start .fits .mk)) at (at-put-signed .put-signed .ensures)))
+    let number : Puts 20 _ _ _ _ _ = record { put = at-put-decimal .put-decimal .ensures; short = omega (arith, decimal-most (at-start .args .number) (at-start .fits .number)) } in
+    puts-then
+    (puts-then
+    (puts-then (puts-then number (rw (back (at-start .fits .mk)) at (at-put-signed .put-signed .ensures)))
     (rw (back (at-start .fits .rest)) at (at-put-signed2 .put-signed2 .ensures)))
     (rw (at-count-looks .count-looks .ensures) at (at-put-number .put-number .ensures)))
-    (c .before .before .put-byte .ensures)
+    (puts-text (c .before .before .put-byte .ensures))
 
 pub put-on-page-spec : {M : Type 1} → statement M
 put-on-page-spec =
