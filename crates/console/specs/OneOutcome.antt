@@ -17,5 +17,6 @@ pub one-answer : (sheet line before : List ℕ) (at r s : ℕ) (later after : Li
 one-answer sheet line before at r s later after p q = one-put (p .put) (q .put)
 
 pub one-print_walk : (charge : Charge) (mk : ℤ) (steps : List ℤ) (sheet before : List ℕ) (at r s : ℕ) (later after : List ℕ)
-    → Puts pageRoom (printedWalk (walkTold Good sheet charge mk steps)) before at r later → Puts pageRoom (printedWalk (walkTold Good sheet charge mk steps)) before at s after → (r ≡ s) × (later ≡ after)
+    → Puts pageRoom (printedWalk (walkTold Good sheet charge mk steps)) before at r later
+    → Puts pageRoom (printedWalk (walkTold Good sheet charge mk steps)) before at s after → (r ≡ s) × (later ≡ after)
 one-print_walk charge mk steps sheet before at r s later after p q = one-put (p .put) (q .put)

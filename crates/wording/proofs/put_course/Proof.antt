@@ -52,7 +52,8 @@ returns c =
     let at-put-small = c .before .before .before .before .before .before in
     let at-put-text = at-put-small .before .before .before .before in
     let at-answer = at-put-text .before .before .before .before in
-    rw (at-answer .answer .given .1) (puts-wider (omega arith) (puts-then (puts-then (puts-text (at-put-text .put-text .ensures)) (at-put-small .put-small .ensures)) (c .before .before .put-state .ensures)))
+    rw (at-answer .answer .given .1)
+    (puts-wider (omega arith) (puts-then (puts-then (puts-text (at-put-text .put-text .ensures)) (at-put-small .put-small .ensures)) (c .before .before .put-state .ensures)))
 
 same-length-2 : tie.Need-same-length-2
 same-length-2 c = search needs

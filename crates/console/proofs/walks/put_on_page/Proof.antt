@@ -1,9 +1,6 @@
--- `put_on_page`: the step's number, mK, rest and number of looks, then the line feed, each behind the one before (`puts-then`), none longer than its word is (`decimal-most`).
-use Rattle.text.specs.PutsLaws.{puts-text, puts-then}
-use Rattle.text.specs.Puts.{Puts}
-use Rattle.text.specs.DigitsLaws.{decimal-most}
+-- `put_on_page`: the step's number, mK, rest and number of looks, then the line feed, each behind the one before (`puts-then`).
+use Rattle.text.specs.PutsLaws.{puts-text, puts-decimal, puts-then}
 use Rattle.signed.specs.Zed.{back}
-use native.Mathlib.Omega.{arith}
 use borrow.Author.Needs.{needs}
 use Rattle.console.proofs.walks.put_on_page.Statement.{statement}
 use Rattle.console.proofs.walks.put_on_page.Tie as tie
@@ -37,10 +34,9 @@ returns c =
     let at-put-signed = at-put-signed2 .before .before .before .before in
     let at-put-decimal = at-put-signed .before .before .before .before in
     let at-start = at-put-decimal .before .before .before .before in
-    let number : Puts 20 _ _ _ _ _ = record { put = at-put-decimal .put-decimal .ensures; short = omega (arith, decimal-most (at-start .args .number) (at-start .fits .number)) } in
     puts-then
     (puts-then
-    (puts-then (puts-then number (rw (back (at-start .fits .mk)) at (at-put-signed .put-signed .ensures)))
+    (puts-then (puts-then (puts-decimal (at-start .fits .number) (at-put-decimal .put-decimal .ensures)) (rw (back (at-start .fits .mk)) at (at-put-signed .put-signed .ensures)))
     (rw (back (at-start .fits .rest)) at (at-put-signed2 .put-signed2 .ensures)))
     (rw (at-count-looks .count-looks .ensures) at (at-put-number .put-number .ensures)))
     (puts-text (c .before .before .put-byte .ensures))
