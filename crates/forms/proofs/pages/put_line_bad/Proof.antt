@@ -30,7 +30,7 @@ returns c =
     let at-put-text2 = c .before .before .before .before .before .before in
     let at-put-decimal = at-put-text2 .before .before .before .before .before in
     let at-put-text = at-put-decimal .before .before .before .before in
-    let at-start = at-put-text .before .before .before .before .before in
+    let at-start = at-put-text .before .before .before .before in
     puts-then
     (puts-then (puts-then (puts-text (at-put-text .put-text .ensures)) (puts-decimal (at-start .fits .line) (at-put-decimal .put-decimal .ensures))) (puts-text (at-put-text2 .put-text2 .ensures)))
     (c .before .before .put-expected .ensures)

@@ -27,7 +27,7 @@ returns : tie.Need-returns
 returns c =
     let at-put-decimal = c .before .before .before .before .before .before .before in
     let at-put-text = at-put-decimal .before .before .before .before in
-    let at-start = at-put-text .before .before .before .before .before in
+    let at-start = at-put-text .before .before .before .before in
     puts-wider (omega arith)
     (puts-then (puts-then (puts-text (at-put-text .put-text .ensures)) (puts-small (at-start .fits .row) (at-put-decimal .put-decimal .ensures)))
     (puts-text (c .before .before .put-text2 .ensures)))
