@@ -7,6 +7,5 @@ pub mod Answers
 pub mod AnswersLaws
 pub mod WalksLaws
 pub mod VerdictLaws
-pub mod RoomLaws
 pub mod OneOutcome
 pub mod Examples

@@ -1,6 +1,8 @@
 -- The limits of the console (docs/PROGRAM.md), each said here once.
-use Prim.Native.Nat.{ℕ, _+_, _-_}
-use Rattle.walk.specs.Limits.{mostNumbers}
+use Prim.Native.Nat.{ℕ, _+_, _*_}
+use Rattle.air.specs.Limits.{lookPlaces}
+use Rattle.walk.specs.Limits.{mostSteps, mostNumbers}
+use Rattle.wording.specs.Limits.{field, small, looksRoom, courseRoom}
 
 -- the numbers of a start: A, c, h and mK
 abbrev pub startNumbers : ℕ
@@ -10,13 +12,27 @@ startNumbers = 4
 abbrev pub heldNumbers : ℕ
 heldNumbers = startNumbers + mostNumbers + 1
 
--- no answer line is longer, and without its line feed no reply
-abbrev pub answerRoom : ℕ
-answerRoom = 8192
+-- ---- the most bytes of a text, from those of its parts (specs/Limits.antt of wording)
+-- a step in a line: mK, rest, the number of looks, and the looks
+abbrev pub inLineRoom : ℕ
+inLineRoom = (field + field) + looksRoom lookPlaces
 
+-- a step on a page: its number, mK, rest, the number of looks, and a line feed
+abbrev pub onPageRoom : ℕ
+onPageRoom = (20 + 3 * field) + 1
+
+-- what stands behind the steps of a page: refused, the number and a line feed
+abbrev pub endRoom : ℕ
+endRoom = (7 + small) + 1
+
+-- a reply: that of the longest walk, how it ended and its steps
 abbrev pub replyRoom : ℕ
-replyRoom = answerRoom - 1
+replyRoom = courseRoom + inLineRoom * mostSteps
 
--- nor is a printed walk
+-- an answer line: a reply and a line feed
+abbrev pub answerRoom : ℕ
+answerRoom = replyRoom + 1
+
+-- a printed walk: the header, the lines of the steps, and what stands behind them
 abbrev pub pageRoom : ℕ
-pageRoom = 4096
+pageRoom = (19 + onPageRoom * mostSteps) + endRoom

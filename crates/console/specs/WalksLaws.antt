@@ -13,8 +13,8 @@ use lib.ListN.{length, take, drop, getD, set, length-append, length-take, length
 use lib.Seq.{sets, sets-eq, length-sets, take-at, drop-at, drop-append-le, getD-drop, drop-drop, getD-set-same, getD-set-other}
 use lib.Dec.{eqb, lit<}
 use Rattle.air.specs.Limits.{lookPlaces}
-use Rattle.text.specs.Put.{Put}
-use Rattle.text.specs.PutLaws.{put-none, put-then}
+use Rattle.text.specs.Puts.{Puts}
+use Rattle.text.specs.PutsLaws.{puts-none, puts-then, puts-wider}
 use Rattle.walk.specs.Limits.{stepNumbers, mostSteps, mostLooks, mostNumbers}
 use Rattle.fields.specs.declared.Numbers.{Numbers}
 use Rattle.fields.specs.declared.Numbers.the-variants.{Count, Bad}
@@ -47,10 +47,15 @@ use Rattle.console.specs.declared.walks.Layout.the-variants.{Line, Page}
 use Rattle.wording.specs.Texts.{toldText, used, courseText}
 use Rattle.console.specs.Requests.{misfitText}
 use Rattle.console.specs.Walks.{walkTold, stepText, stepsText, walkText, walkRequest, headerText, endText, printedWalk}
-use Rattle.console.specs.inner.Shown.{stepsIn, shown, walkShown, layoutText, Holds}
+use Rattle.console.specs.inner.Shown.{stepsIn, shown, walkShown, layoutText, Holds, stepRoom}
 use Rattle.wording.specs.TextsLaws.{used-eleven}
 
 -- ---- the loop over the steps
+-- one step more has so many bytes more
+room-more : (layout : Layout) (i : ℕ) → stepRoom layout * i + stepRoom layout ≤ stepRoom layout * (i + 1)
+room-more Line i = omega arith
+room-more Page i = omega arith
+
 module _ (layout : Layout) (n : ℕ) (t r : List ℤ) (l : List ℕ) where
   -- the steps from index i on
   abbrev left : ℕ → List ℕ
@@ -71,31 +76,32 @@ module _ (layout : Layout) (n : ℕ) (t r : List ℤ) (l : List ℕ) where
   pub record Putting (before : List ℕ) (at next : ℕ) (now : List ℕ) (i : ℕ) : Type 0 where
     pub text : List ℕ
     pub within : i ≤ n
-    pub put : Put text before at next now
+    pub put : Puts (stepRoom layout * i) text before at next now
     pub whole : text ++ left i ≡ shown layout 1 n t r l
 
   pub none-put : (before : List ℕ) (at : ℕ) → at ≤ length before → Putting before at at before 0
   none-put before at h = record {
     text = [];
     within = omega arith;
-    put = put-none before at h;
+    put = puts-wider (omega arith) (puts-none before at h);
     whole = ap (λ (k : ℕ). shown layout 1 k t r l) (sub-zero n);
   }
 
   module _ {before : List ℕ} {at next : ℕ} {now : List ℕ} {i : ℕ} (p : Putting before at next now i) where
-    pub one-more : {after : ℕ} {later : List ℕ} → i < n → Put (stepAt i) now next after later → Putting before at after later (i + 1)
+    pub one-more : {after : ℕ} {later : List ℕ} → i < n → Puts (stepRoom layout) (stepAt i) now next after later → Putting before at after later (i + 1)
     one-more h q = record {
       text = p .text ++ stepAt i;
       within = omega arith;
-      put = put-then (p .put) q;
+      put = puts-wider (room-more layout i) (puts-then (p .put) q);
       whole = append-assoc (p .text) (stepAt i) (left (i + 1)) ∙ ap (λ (x : List ℕ). p .text ++ x) (sym (left-next i h)) ∙ p .whole;
     }
 
-    pub all-put : n ≤ i → Put (shown layout 1 n t r l) before at next now
+    pub all-put : n ≤ i → Puts (stepRoom layout * n) (shown layout 1 n t r l) before at next now
     unfolding shown
     all-put h =
         let e : n - i ≡ 0 = omega arith in
-        rw (← p .whole, e, append-nil) (p .put)
+        let d : i ≡ n = omega (arith, p .within) in
+        rw (← p .whole, e, append-nil) (rw d at (p .put))
 
 -- ---- what the lists show
 -- each step's looks are those of a search
@@ -147,14 +153,14 @@ module _ {a : WalkAnswer} {t r t′ r′ : List ℤ} {l l′ : List ℕ} (told :
   room : (n : ℕ) (x y z : List ℤ) → length x ≡ n → y ≡ laid x z → length z ≡ length y → n ≤ length y
   room n x y z ex ey ez = omega (arith, ap length ey, length-append x (drop (length x) z), length-drop (length x) z)
 
-  pub holds : length t ≡ length t′ → length r ≡ length r′ → lookPlaces * length t′ ≤ length l′ → Holds (stepsIn (paperWalk a)) t′ r′ l′
-  holds et er el =
+  pub holds : length t ≡ length t′ → length t′ ≤ mostSteps → length r ≡ length r′ → lookPlaces * length t′ ≤ length l′ → Holds (stepsIn (paperWalk a)) t′ r′ l′
+  holds et em er el =
       let os = outsOf told in
       let n : length os ≡ stepsIn (paperWalk a) = sym (ap stepsIn (k .answer) ∙ steps-in told) in
       let ft : stepsIn (paperWalk a) ≤ length t′ =
       room (stepsIn (paperWalk a)) (temperaturesOf os) t′ t (length-map os (λ (o : Out). pos (o .state .mk)) ∙ n) (ap (λ (x : Lists). x .temperatures) (k .lent)) et in
       let fr : stepsIn (paperWalk a) ≤ length r′ = room (stepsIn (paperWalk a)) (restsOf os) r′ r (length-map os (λ (o : Out). o .rests) ∙ n) (ap (λ (x : Lists). x .rests) (k .lent)) er in
-      record { temperatures = ft; rests = fr; looks = omega arith }
+      record { few = omega arith; temperatures = ft; rests = fr; looks = omega arith }
 
   steps-shown : Searched (outsOf told) → (layout : Layout) → shown layout 1 (stepsIn (paperWalk a)) t′ r′ l′ ≡ stepsText layout 1 (outsOf told)
   steps-shown searched layout =

@@ -8,7 +8,8 @@ use gas::Charge;
 use sheet::SheetAnswer;
 ghost use mathlib.Core.Path.{_≡_};
 ghost use Rattle.rows.specs.Rows.{rowsH};
-ghost use Rattle.text.specs.Put.{Put};
+ghost use Rattle.text.specs.Puts.{Puts};
+ghost use Rattle.console.specs.Limits.{replyRoom, answerRoom, pageRoom};
 ghost use Rattle.console.specs.Answers.{Columns, Judged, lineText, answerOf};
 ghost use Rattle.console.specs.Walks.{walkTold, printedWalk};
 
@@ -24,7 +25,7 @@ pub fn answer_judged(
     at: usize,
 ) -> usize
     requires { ⌜ Judged verdict (now sheet) × Columns (now air) (now psis) (now cps) ⌝ }
-    ensures { λ r. ⌜ Put (answerOf verdict (now (sheet .entry)) (now (line .entry))) (now (out .entry)) at r (now (out .exit)) ⌝ }
+    ensures { λ r. ⌜ Puts answerRoom (answerOf verdict (now (sheet .entry)) (now (line .entry))) (now (out .entry)) at r (now (out .exit)) ⌝ }
 {
     let next = put_reply(line, verdict, sheet, air, psis, cps, out, at);
     text::put_byte(10, out, next)
@@ -42,7 +43,7 @@ fn put_reply(
     at: usize,
 ) -> usize
     requires { ⌜ Judged verdict (now sheet) × Columns (now air) (now psis) (now cps) ⌝ }
-    ensures { λ r. ⌜ Put (lineText verdict (now (sheet .entry)) (now (line .entry))) (now (out .entry)) at r (now (out .exit)) ⌝ }
+    ensures { λ r. ⌜ Puts replyRoom (lineText verdict (now (sheet .entry)) (now (line .entry))) (now (out .entry)) at r (now (out .exit)) ⌝ }
 {
     if fields::holds_return(line) {
         return text::put_text(b"error\tthe line has a carriage return", out, at);
@@ -75,7 +76,7 @@ pub fn print_judged(
     at: usize,
 ) -> usize
     requires { ⌜ Judged verdict (now sheet) × (now air ≡ rowsH) ⌝ }
-    ensures { λ r. ⌜ Put (printedWalk (walkTold verdict (now (sheet .entry)) charge (t .0) (now (steps .entry)))) (now (out .entry)) at r (now (out .exit)) ⌝ }
+    ensures { λ r. ⌜ Puts pageRoom (printedWalk (walkTold verdict (now (sheet .entry)) charge (t .0) (now (steps .entry)))) (now (out .entry)) at r (now (out .exit)) ⌝ }
 {
     walks::show(Layout::Page, charge, t, steps, verdict, sheet, air, out, at)
 }

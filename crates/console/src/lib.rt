@@ -10,18 +10,19 @@ mod walks;
 use air::Millikelvin;
 use gas::Charge;
 use sheet::SheetAnswer;
-ghost use Rattle.text.specs.Put.{Put};
+ghost use Rattle.text.specs.Puts.{Puts};
+ghost use Rattle.console.specs.Limits.{answerRoom, pageRoom};
 ghost use Rattle.console.specs.Answers.{answerOf};
 ghost use Rattle.console.specs.Walks.{walkTold, printedWalk};
 
-// the room for an answer line, and for a printed walk
-pub const ANSWER_ROOM: usize = 8192;
+// no answer line is longer, and no printed walk (specs/Limits.antt)
+pub const ANSWER_ROOM: usize = 114 + 184 * walk::MOST_STEPS;
 
-pub const PAGE_ROOM: usize = 4096;
+pub const PAGE_ROOM: usize = 38 + 84 * walk::MOST_STEPS;
 
 // Puts the answer to a request line, its line feed with it, as far as there is room. Answers the place after it.
 pub fn answer(line: &[u8], sheet: &[u32], out: &mut [u8], at: usize) -> usize
-    ensures { λ r. ⌜ Put (answerOf SheetAnswer.Good (now (sheet .entry)) (now (line .entry))) (now (out .entry)) at r (now (out .exit)) ⌝ }
+    ensures { λ r. ⌜ Puts answerRoom (answerOf SheetAnswer.Good (now (sheet .entry)) (now (line .entry))) (now (out .entry)) at r (now (out .exit)) ⌝ }
 {
     let air = rows::columns::heat_column();
     let psis = rows::columns::psi_column();
@@ -39,7 +40,7 @@ pub fn print_walk(
     out: &mut [u8],
     at: usize,
 ) -> usize
-    ensures { λ r. ⌜ Put (printedWalk (walkTold SheetAnswer.Good (now (sheet .entry)) charge (t .0) (now (steps .entry)))) (now (out .entry)) at r (now (out .exit)) ⌝ }
+    ensures { λ r. ⌜ Puts pageRoom (printedWalk (walkTold SheetAnswer.Good (now (sheet .entry)) charge (t .0) (now (steps .entry)))) (now (out .entry)) at r (now (out .exit)) ⌝ }
 {
     let air = rows::columns::heat_column();
     let verdict = sheet::inner::judge(sheet, &air);

@@ -4,9 +4,10 @@ use marking::Typed;
 use typed::Number;
 ghost use mathlib.Core.Path.{_≡_};
 ghost use lib.ListN.{length};
-ghost use Rattle.text.specs.Put.{Put};
+ghost use Rattle.text.specs.Puts.{Puts};
 ghost use Rattle.fields.specs.Words.{namedAt, NoneBelow};
 ghost use Rattle.fields.specs.Fields.{fieldsFrom, twoOf};
+ghost use Rattle.console.specs.Limits.{replyRoom};
 ghost use Rattle.console.specs.Marks.{kinds, kindOf, inUnit, markedText, numberText, typedText, kindText, markRequest};
 
 // What kind of answer is typed.
@@ -57,7 +58,7 @@ fn in_unit(kelvins: bool, x: f64) -> Typed
 
 // The mark of a typed answer, its key and window in the fields from `from` on.
 fn put_marked(answer: Typed, line: &[u8], from: usize, out: &mut [u8], at: usize) -> usize
-    ensures { λ r. ⌜ Put (markedText answer (twoOf (fieldsFrom (now (line .entry)) from))) (now (out .entry)) at r (now (out .exit)) ⌝ }
+    ensures { λ r. ⌜ Puts replyRoom (markedText answer (twoOf (fieldsFrom (now (line .entry)) from))) (now (out .entry)) at r (now (out .exit)) ⌝ }
 {
     match fields::read_two(line, from) {
         fields::Two::Are(key, window) => wording::put_mark(
@@ -78,7 +79,7 @@ fn put_number(
     out: &mut [u8],
     at: usize,
 ) -> usize
-    ensures { λ r. ⌜ Put (numberText kelvins number (fieldsFrom (now (line .entry)) from)) (now (out .entry)) at r (now (out .exit)) ⌝ }
+    ensures { λ r. ⌜ Puts replyRoom (numberText kelvins number (fieldsFrom (now (line .entry)) from)) (now (out .entry)) at r (now (out .exit)) ⌝ }
 {
     match number {
         Number::Is(x) => put_marked(in_unit(kelvins, x), line, from, out, at),
@@ -88,7 +89,7 @@ fn put_number(
 
 // The mark of the number in the field at `from`.
 fn put_typed(kelvins: bool, line: &[u8], from: usize, out: &mut [u8], at: usize) -> usize
-    ensures { λ r. ⌜ Put (typedText kelvins (fieldsFrom (now (line .entry)) from)) (now (out .entry)) at r (now (out .exit)) ⌝ }
+    ensures { λ r. ⌜ Puts replyRoom (typedText kelvins (fieldsFrom (now (line .entry)) from)) (now (out .entry)) at r (now (out .exit)) ⌝ }
 {
     if from > line.len() {
         return replies::put_misfit(out, at);
@@ -100,7 +101,7 @@ fn put_typed(kelvins: bool, line: &[u8], from: usize, out: &mut [u8], at: usize)
 
 // The mark of an answer of a kind.
 fn put_kind(kind: Kind, line: &[u8], from: usize, out: &mut [u8], at: usize) -> usize
-    ensures { λ r. ⌜ Put (kindText kind (fieldsFrom (now (line .entry)) from)) (now (out .entry)) at r (now (out .exit)) ⌝ }
+    ensures { λ r. ⌜ Puts replyRoom (kindText kind (fieldsFrom (now (line .entry)) from)) (now (out .entry)) at r (now (out .exit)) ⌝ }
 {
     match kind {
         Kind::Kelvins => put_typed(true, line, from, out, at),
@@ -112,7 +113,7 @@ fn put_kind(kind: Kind, line: &[u8], from: usize, out: &mut [u8], at: usize) -> 
 
 // mark kelvins x key window, mark content x key window, mark blank key window
 pub(crate) fn reply_mark(line: &[u8], from: usize, out: &mut [u8], at: usize) -> usize
-    ensures { λ r. ⌜ Put (markRequest (fieldsFrom (now (line .entry)) from)) (now (out .entry)) at r (now (out .exit)) ⌝ }
+    ensures { λ r. ⌜ Puts replyRoom (markRequest (fieldsFrom (now (line .entry)) from)) (now (out .entry)) at r (now (out .exit)) ⌝ }
 {
     if from > line.len() {
         return replies::put_misfit(out, at);

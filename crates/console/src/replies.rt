@@ -15,7 +15,8 @@ use sheet::SheetAnswer;
 use text::Whole;
 ghost use mathlib.Core.Path.{_≡_};
 ghost use Rattle.rows.specs.Rows.{rowsH, rowsPsi};
-ghost use Rattle.text.specs.Put.{Put};
+ghost use Rattle.text.specs.Puts.{Puts};
+ghost use Rattle.console.specs.Limits.{replyRoom};
 ghost use Rattle.sheet.specs.Sheet.{Accepted};
 ghost use Rattle.fields.specs.Fields.{fieldsFrom};
 ghost use Rattle.gas.specs.Answers.{paperBurn};
@@ -25,21 +26,21 @@ ghost use Rattle.console.specs.Answers.{Columns, Judged, Ready, airText,
 
 // No request begins with this word.
 fn put_unknown(out: &mut [u8], at: usize) -> usize
-    ensures { λ r. ⌜ Put unknownText (now (out .entry)) at r (now (out .exit)) ⌝ }
+    ensures { λ r. ⌜ Puts replyRoom unknownText (now (out .entry)) at r (now (out .exit)) ⌝ }
 {
     text::put_text(b"error\tno such request", out, at)
 }
 
 // The request takes other fields.
 pub(crate) fn put_misfit(out: &mut [u8], at: usize) -> usize
-    ensures { λ r. ⌜ Put misfitText (now (out .entry)) at r (now (out .exit)) ⌝ }
+    ensures { λ r. ⌜ Puts replyRoom misfitText (now (out .entry)) at r (now (out .exit)) ⌝ }
 {
     text::put_text(b"error\tthe request takes other fields", out, at)
 }
 
 // What was typed is no number.
 pub(crate) fn put_no_number(out: &mut [u8], at: usize) -> usize
-    ensures { λ r. ⌜ Put noNumberText (now (out .entry)) at r (now (out .exit)) ⌝ }
+    ensures { λ r. ⌜ Puts replyRoom noNumberText (now (out .entry)) at r (now (out .exit)) ⌝ }
 {
     text::put_text(b"error\tnot a number", out, at)
 }
@@ -47,7 +48,7 @@ pub(crate) fn put_no_number(out: &mut [u8], at: usize) -> usize
 // The temperature of a psi, asked with eleven places for looks.
 fn ask_psi(target: i64, psis: &[u32; rows::ROWS], out: &mut [u8], at: usize) -> usize
     requires { ⌜ now psis ≡ rowsPsi ⌝ }
-    ensures { λ r. ⌜ Put (airText AirAsk.Temperature target) (now (out .entry)) at r (now (out .exit)) ⌝ }
+    ensures { λ r. ⌜ Puts replyRoom (airText AirAsk.Temperature target) (now (out .entry)) at r (now (out .exit)) ⌝ }
 {
     let mut looks = [0u32; air::LOOK_PLACES];
     let answer = air::inner::psi_inverse_lent(target, &mut looks, psis);
@@ -65,7 +66,7 @@ fn tell_air(
     at: usize,
 ) -> usize
     requires { ⌜ Columns (now air) (now psis) (now cps) ⌝ }
-    ensures { λ r. ⌜ Put (airText reading number) (now (out .entry)) at r (now (out .exit)) ⌝ }
+    ensures { λ r. ⌜ Puts replyRoom (airText reading number) (now (out .entry)) at r (now (out .exit)) ⌝ }
 {
     match reading {
         AirAsk::Heat => {
@@ -90,7 +91,7 @@ fn reply_air(
     at: usize,
 ) -> usize
     requires { ⌜ Columns (now air) (now psis) (now cps) ⌝ }
-    ensures { λ r. ⌜ Put (airReply reading number) (now (out .entry)) at r (now (out .exit)) ⌝ }
+    ensures { λ r. ⌜ Puts replyRoom (airReply reading number) (now (out .entry)) at r (now (out .exit)) ⌝ }
 {
     match number {
         Whole::Is(n) => tell_air(reading, n, air, psis, cps, out, at),
@@ -100,7 +101,7 @@ fn reply_air(
 
 // What a charge burns to, or its refusal.
 fn put_burnt(answer: BurnAnswer, out: &mut [u8], at: usize) -> usize
-    ensures { λ r. ⌜ Put (burntText (paperBurn answer)) (now (out .entry)) at r (now (out .exit)) ⌝ }
+    ensures { λ r. ⌜ Puts replyRoom (burntText (paperBurn answer)) (now (out .entry)) at r (now (out .exit)) ⌝ }
 {
     match answer {
         BurnAnswer::Is(products) => wording::put_products(products, out, at),
@@ -110,7 +111,7 @@ fn put_burnt(answer: BurnAnswer, out: &mut [u8], at: usize) -> usize
 
 // burn A c h
 fn reply_burn(numbers: Three, out: &mut [u8], at: usize) -> usize
-    ensures { λ r. ⌜ Put (burnText numbers) (now (out .entry)) at r (now (out .exit)) ⌝ }
+    ensures { λ r. ⌜ Puts replyRoom (burnText numbers) (now (out .entry)) at r (now (out .exit)) ⌝ }
 {
     match numbers {
         Three::Are(air, carbon, hydrogen) => put_burnt(gas::burn(air, carbon, hydrogen), out, at),
@@ -128,7 +129,7 @@ fn ask_temperature(
     at: usize,
 ) -> usize
     requires { ⌜ Accepted (now sheet) × (now air ≡ rowsH) ⌝ }
-    ensures { λ r. ⌜ Put (gasText Quantity.Temperature (now (sheet .entry)) charge target) (now (out .entry)) at r (now (out .exit)) ⌝ }
+    ensures { λ r. ⌜ Puts replyRoom (gasText Quantity.Temperature (now (sheet .entry)) charge target) (now (out .entry)) at r (now (out .exit)) ⌝ }
 {
     let mut looks = [0u32; air::LOOK_PLACES];
     let answer = gas::inner::temperature_judged(charge, Heat(target), &mut looks, sheet, air);
@@ -146,7 +147,7 @@ fn tell_gas(
     at: usize,
 ) -> usize
     requires { ⌜ Accepted (now sheet) × (now air ≡ rowsH) ⌝ }
-    ensures { λ r. ⌜ Put (gasText quantity (now (sheet .entry)) charge number) (now (out .entry)) at r (now (out .exit)) ⌝ }
+    ensures { λ r. ⌜ Puts replyRoom (gasText quantity (now (sheet .entry)) charge number) (now (out .entry)) at r (now (out .exit)) ⌝ }
 {
     let t = Millikelvin(number);
     match quantity {
@@ -180,7 +181,7 @@ fn reply_gas(
     at: usize,
 ) -> usize
     requires { ⌜ Ready asked (now sheet) × (now air ≡ rowsH) ⌝ }
-    ensures { λ r. ⌜ Put (gasReply quantity (now (sheet .entry)) asked) (now (out .entry)) at r (now (out .exit)) ⌝ }
+    ensures { λ r. ⌜ Puts replyRoom (gasReply quantity (now (sheet .entry)) asked) (now (out .entry)) at r (now (out .exit)) ⌝ }
 {
     match asked {
         GasAsk::Of(charge, number) => tell_gas(quantity, charge, number, sheet, air, out, at),
@@ -203,7 +204,7 @@ pub(crate) fn reply(
     at: usize,
 ) -> usize
     requires { ⌜ Judged verdict (now sheet) × Columns (now air) (now psis) (now cps) ⌝ }
-    ensures { λ r. ⌜ Put (replyText verdict (now (sheet .entry)) request (fieldsFrom (now (line .entry)) from)) (now (out .entry)) at r (now (out .exit)) ⌝ }
+    ensures { λ r. ⌜ Puts replyRoom (replyText verdict (now (sheet .entry)) request (fieldsFrom (now (line .entry)) from)) (now (out .entry)) at r (now (out .exit)) ⌝ }
 {
     match request {
         Request::OfAir(reading) => {

@@ -5,17 +5,19 @@ use gas::Charge;
 use sheet::SheetAnswer;
 use walk::WalkAnswer;
 ghost use mathlib.Core.Path.{_≡_};
-ghost use Prim.Native.Nat.{_≤_};
+ghost use Prim.Native.Nat.{_*_, _≤_};
 ghost use lib.ListN.{length};
 ghost use Rattle.rows.specs.Rows.{rowsH};
-ghost use Rattle.text.specs.Put.{Put};
+ghost use Rattle.text.specs.Puts.{Puts};
+ghost use Rattle.air.specs.Limits.{lookPlaces};
 ghost use Rattle.walk.specs.Limits.{mostSteps, mostLooks};
 ghost use Rattle.fields.specs.Fields.{fieldsFrom};
 ghost use Rattle.walk.specs.Lists.{lists};
 ghost use Rattle.walk.specs.Walk.{paperWalk, Walks};
 ghost use Rattle.wording.specs.Texts.{used};
+ghost use Rattle.console.specs.Limits.{inLineRoom, onPageRoom, endRoom, replyRoom, pageRoom};
 ghost use Rattle.console.specs.Walks.{walkTold, inLine, onPage, stepText, refusedLine, endText, walkRequest};
-ghost use Rattle.console.specs.inner.Shown.{stepsIn, shown, walkShown, layoutText, Holds};
+ghost use Rattle.console.specs.inner.Shown.{stepsIn, shown, walkShown, layoutText, Holds, stepRoom, walkRoom};
 ghost use Rattle.console.specs.Answers.{Judged};
 
 // How a walk is shown: in one line, or on a page with a line for each step.
@@ -42,7 +44,8 @@ fn steps_done(answer: WalkAnswer) -> usize
 
 // A step in a line: mK, rest, the number of looks that its places hold, the looks.
 fn put_in_line(mk: i64, rest: i64, looks: &[u32], out: &mut [u8], at: usize) -> usize
-    ensures { λ r. ⌜ Put (inLine mk rest (used (now (looks .entry)))) (now (out .entry)) at r (now (out .exit)) ⌝ }
+    requires { ⌜ length (now looks) ≤ lookPlaces ⌝ }
+    ensures { λ r. ⌜ Puts inLineRoom (inLine mk rest (used (now (looks .entry)))) (now (out .entry)) at r (now (out .exit)) ⌝ }
 {
     let next = wording::put_signed(mk, out, at);
     let after = wording::put_signed(rest, out, next);
@@ -51,7 +54,7 @@ fn put_in_line(mk: i64, rest: i64, looks: &[u32], out: &mut [u8], at: usize) -> 
 
 // A step on a page: its number, mK, rest and the number of looks that its places hold.
 fn put_on_page(number: usize, mk: i64, rest: i64, looks: &[u32], out: &mut [u8], at: usize) -> usize
-    ensures { λ r. ⌜ Put (onPage number mk rest (used (now (looks .entry)))) (now (out .entry)) at r (now (out .exit)) ⌝ }
+    ensures { λ r. ⌜ Puts onPageRoom (onPage number mk rest (used (now (looks .entry)))) (now (out .entry)) at r (now (out .exit)) ⌝ }
 {
     let start = text::put_decimal(number as u64, out, at);
     let next = wording::put_signed(mk, out, start);
@@ -70,7 +73,8 @@ fn put_step(
     out: &mut [u8],
     at: usize,
 ) -> usize
-    ensures { λ r. ⌜ Put (stepText layout number mk rest (used (now (looks .entry)))) (now (out .entry)) at r (now (out .exit)) ⌝ }
+    requires { ⌜ length (now looks) ≤ lookPlaces ⌝ }
+    ensures { λ r. ⌜ Puts (stepRoom layout) (stepText layout number mk rest (used (now (looks .entry)))) (now (out .entry)) at r (now (out .exit)) ⌝ }
 {
     match layout {
         Layout::Line => put_in_line(mk, rest, looks, out, at),
@@ -89,7 +93,7 @@ fn put_steps(
     at: usize,
 ) -> usize
     requires { ⌜ Holds n (now temperatures) (now rests) (now looks) × (at ≤ length (now out)) ⌝ }
-    ensures { λ r. ⌜ Put (shown layout 1 n (now (temperatures .entry)) (now (rests .entry)) (now (looks .entry))) (now (out .entry)) at r (now (out .exit)) ⌝ }
+    ensures { λ r. ⌜ Puts (stepRoom layout * n) (shown layout 1 n (now (temperatures .entry)) (now (rests .entry)) (now (looks .entry))) (now (out .entry)) at r (now (out .exit)) ⌝ }
 {
     let mut next = at;
     let mut i: usize = 0;
@@ -112,17 +116,17 @@ fn put_steps(
 
 // `refused` and the number, in a line of their own.
 fn put_refused(number: u32, out: &mut [u8], at: usize) -> usize
-    ensures { λ r. ⌜ Put (refusedLine number) (now (out .entry)) at r (now (out .exit)) ⌝ }
+    ensures { λ r. ⌜ Puts endRoom (refusedLine number) (now (out .entry)) at r (now (out .exit)) ⌝ }
 {
     let word = text::put_text(b"refused", out, at);
-    let next = wording::put_number(number as u64, out, word);
+    let next = wording::put_small(number, out, word);
     text::put_byte(10, out, next)
 }
 
 // What stands on a page after the lines of the steps done.
 fn put_end(answer: WalkAnswer, out: &mut [u8], at: usize) -> usize
     requires { ⌜ at ≤ length (now out) ⌝ }
-    ensures { λ r. ⌜ Put (endText (paperWalk answer)) (now (out .entry)) at r (now (out .exit)) ⌝ }
+    ensures { λ r. ⌜ Puts endRoom (endText (paperWalk answer)) (now (out .entry)) at r (now (out .exit)) ⌝ }
 {
     match answer {
         WalkAnswer::Done(_, _, _) => at,
@@ -141,7 +145,7 @@ fn put_line(
     at: usize,
 ) -> usize
     requires { ⌜ Holds (stepsIn (paperWalk answer)) (now temperatures) (now rests) (now looks) ⌝ }
-    ensures { λ r. ⌜ Put (walkShown Layout.Line (paperWalk answer) (now (temperatures .entry)) (now (rests .entry)) (now (looks .entry))) (now (out .entry)) at r (now (out .exit)) ⌝ }
+    ensures { λ r. ⌜ Puts replyRoom (walkShown Layout.Line (paperWalk answer) (now (temperatures .entry)) (now (rests .entry)) (now (looks .entry))) (now (out .entry)) at r (now (out .exit)) ⌝ }
 {
     let next = wording::put_course(answer, out, at);
     let n = steps_done(answer);
@@ -158,7 +162,7 @@ fn put_page(
     at: usize,
 ) -> usize
     requires { ⌜ Holds (stepsIn (paperWalk answer)) (now temperatures) (now rests) (now looks) ⌝ }
-    ensures { λ r. ⌜ Put (walkShown Layout.Page (paperWalk answer) (now (temperatures .entry)) (now (rests .entry)) (now (looks .entry))) (now (out .entry)) at r (now (out .exit)) ⌝ }
+    ensures { λ r. ⌜ Puts pageRoom (walkShown Layout.Page (paperWalk answer) (now (temperatures .entry)) (now (rests .entry)) (now (looks .entry))) (now (out .entry)) at r (now (out .exit)) ⌝ }
 {
     let next = text::put_text(b"step\tmK\trest\tlooks\n", out, at);
     let n = steps_done(answer);
@@ -177,7 +181,7 @@ fn put_walk(
     at: usize,
 ) -> usize
     requires { ⌜ Holds (stepsIn (paperWalk answer)) (now temperatures) (now rests) (now looks) ⌝ }
-    ensures { λ r. ⌜ Put (walkShown layout (paperWalk answer) (now (temperatures .entry)) (now (rests .entry)) (now (looks .entry))) (now (out .entry)) at r (now (out .exit)) ⌝ }
+    ensures { λ r. ⌜ Puts (walkRoom layout) (walkShown layout (paperWalk answer) (now (temperatures .entry)) (now (rests .entry)) (now (looks .entry))) (now (out .entry)) at r (now (out .exit)) ⌝ }
 {
     match layout {
         Layout::Line => put_line(answer, temperatures, rests, looks, out, at),
@@ -223,7 +227,7 @@ pub(crate) fn show(
     at: usize,
 ) -> usize
     requires { ⌜ Judged verdict (now sheet) × (now air ≡ rowsH) ⌝ }
-    ensures { λ r. ⌜ Put (layoutText layout (walkTold verdict (now (sheet .entry)) charge (t .0) (now (steps .entry)))) (now (out .entry)) at r (now (out .exit)) ⌝ }
+    ensures { λ r. ⌜ Puts (walkRoom layout) (layoutText layout (walkTold verdict (now (sheet .entry)) charge (t .0) (now (steps .entry)))) (now (out .entry)) at r (now (out .exit)) ⌝ }
 {
     let mut temperatures = [0i64; walk::MOST_STEPS];
     let mut rests = [0i64; walk::MOST_STEPS];
@@ -253,7 +257,7 @@ pub(crate) fn reply_walk(
     at: usize,
 ) -> usize
     requires { ⌜ Judged verdict (now sheet) × (now air ≡ rowsH) ⌝ }
-    ensures { λ r. ⌜ Put (walkRequest verdict (now (sheet .entry)) (fieldsFrom (now (line .entry)) from)) (now (out .entry)) at r (now (out .exit)) ⌝ }
+    ensures { λ r. ⌜ Puts replyRoom (walkRequest verdict (now (sheet .entry)) (fieldsFrom (now (line .entry)) from)) (now (out .entry)) at r (now (out .exit)) ⌝ }
 {
     let mut list = [0i64; HELD_NUMBERS];
     let n = fields::held_of(fields::read_numbers(line, from, &mut list), HELD_NUMBERS);

@@ -9,10 +9,12 @@ use stream::Output;
 ghost use mathlib.Core.Path.{_≡_};
 ghost use Prim.Native.Nat.{_+_, _*_, _≤_};
 ghost use lib.ListN.{length};
+ghost use Rattle.text.specs.Puts.{Stands};
 ghost use Rattle.console.specs.Limits.{answerRoom};
 ghost use Rattle.stream.specs.Writing.{Free, Leaves};
 ghost use Rattle.console.specs.Answers.{Columns, Judged};
 ghost use Rattle.desk.specs.Limits.{outputRoom};
+ghost use Rattle.desk.specs.Asking.{heldAnswer};
 
 // answers are written where they fill half of this
 const OUTPUT: usize = 8 * console::ANSWER_ROOM;
@@ -93,7 +95,7 @@ fn answer_lines(
     }
 }
 
-// Answers the line that is held, and writes the answers where they fill half of the output. No answer is longer than `answerRoom` (`answer-short` of the console), so none is cut.
+// Answers the line that is held, and writes the answers where they fill half of the output: so the next one has its room.
 fn answer_held(
     held: Held,
     line: &[u8],
@@ -115,7 +117,7 @@ fn answer_held(
     stream::make_room(out, Output::At(next))
 }
 
-// The answer to the line that is held.
+// The answer to the line that is held: the whole of it stands in the buffer, whatever the line and the sheet.
 fn put_answer(
     held: Held,
     line: &[u8],
@@ -128,6 +130,7 @@ fn put_answer(
     at: usize,
 ) -> usize
     requires { ⌜ Judged verdict (now sheet) × (at + answerRoom ≤ length (now out)) × Columns (now air) (now psis) (now cps) ⌝ }
+    ensures { λ r. ⌜ Stands (heldAnswer verdict (now (sheet .entry)) held (now (line .entry))) (now (out .entry)) at r (now (out .exit)) ⌝ }
 {
     match held {
         Held::Bytes(n) => {

@@ -3,8 +3,10 @@ use forms::pages;
 use sheet::SheetAnswer;
 use stream::Output;
 ghost use mathlib.Core.Path.{_≡_};
+ghost use lib.ListN.{length};
 ghost use Rattle.rows.specs.Rows.{rowsH};
 ghost use Rattle.console.specs.Answers.{Judged};
+ghost use Rattle.forms.specs.Limits.{exampleRoom};
 
 // Says on standard error that the arguments are no form, and which there are.
 pub(crate) fn say_usage() {
@@ -45,11 +47,18 @@ pub(crate) fn say_returned_row(row: u32) {
     stream::say(&out, end);
 }
 
+// Places for the built-in example.
+fn example() -> [u8; pages::EXAMPLE_ROOM]
+    ensures { λ r. ⌜ exampleRoom ≡ length r ⌝ }
+{
+    [0; pages::EXAMPLE_ROOM]
+}
+
 // Prints the built-in example, and how to go on.
 pub(crate) fn print_example(verdict: SheetAnswer, sheet: &[u32], air: &[u32; rows::ROWS])
     requires { ⌜ Judged verdict (now sheet) × (now air ≡ rowsH) ⌝ }
 {
-    let mut out = io::buffer();
+    let mut out = example();
     let end = pages::put_example(verdict, sheet, air, &mut out);
     stream::flush(&out, Output::At(end));
 }

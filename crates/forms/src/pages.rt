@@ -2,17 +2,23 @@
 use air::Millikelvin;
 use gas::Charge;
 use sheet::SheetAnswer;
+ghost use Prim.Native.Nat.{_+_, _≤_};
 ghost use mathlib.Core.Path.{_≡_};
 ghost use mathlib.Core.List.{_++_};
+ghost use lib.ListN.{length};
 ghost use Rattle.rows.specs.Rows.{rowsH};
 ghost use Rattle.text.specs.Bytes.{bytesOf};
-ghost use Rattle.text.specs.Put.{Put};
+ghost use Rattle.text.specs.Puts.{Puts, Stands};
 ghost use Rattle.console.specs.Answers.{Judged};
+ghost use Rattle.forms.specs.Limits.{usageRoom, exampleRoom, noteRoom};
 ghost use Rattle.forms.specs.Pages.{usageText, examplePage, rowReturned, lineReturned, expected, lineBad};
+
+// the example is no longer: a printed walk, a line feed and how to go on (specs/Limits.antt)
+pub const EXAMPLE_ROOM: usize = console::PAGE_ROOM + 1 + 246;
 
 // How to go on.
 pub fn put_usage(out: &mut [u8], at: usize) -> usize
-    ensures { λ r. ⌜ Put usageText (now (out .entry)) at r (now (out .exit)) ⌝ }
+    ensures { λ r. ⌜ Puts usageRoom usageText (now (out .entry)) at r (now (out .exit)) ⌝ }
 {
     text::put_text(
         b"keys walk [FILE]   prints the walk of a question, from FILE or standard input\n\
@@ -26,7 +32,7 @@ pub fn put_usage(out: &mut [u8], at: usize) -> usize
 
 // That the arguments are no form, and which there are.
 pub fn put_no_form(out: &mut [u8]) -> usize
-    ensures { λ r. ⌜ Put (bytesOf "keys: no such form\n" ++ usageText) (now (out .entry)) 0 r (now (out .exit)) ⌝ }
+    ensures { λ r. ⌜ Puts (19 + usageRoom) (bytesOf "keys: no such form\n" ++ usageText) (now (out .entry)) 0 r (now (out .exit)) ⌝ }
 {
     let next = text::put_text(b"keys: no such form\n", out, 0);
     put_usage(out, next)
@@ -39,8 +45,8 @@ pub fn put_example(
     air: &[u32; rows::ROWS],
     out: &mut [u8],
 ) -> usize
-    requires { ⌜ Judged verdict (now sheet) × (now air ≡ rowsH) ⌝ }
-    ensures { λ r. ⌜ Put (examplePage verdict (now (sheet .entry))) (now (out .entry)) 0 r (now (out .exit)) ⌝ }
+    requires { ⌜ Judged verdict (now sheet) × (now air ≡ rowsH) × (exampleRoom ≤ length (now out)) ⌝ }
+    ensures { λ r. ⌜ Stands (examplePage verdict (now (sheet .entry))) (now (out .entry)) 0 r (now (out .exit)) ⌝ }
 {
     let steps = [0i64, 0, 0, 1_200_000_001, 0, 0, 0, 2_400_000];
     let start = Charge {
@@ -64,7 +70,7 @@ pub fn put_example(
 
 // Which row of a sheet's text has a carriage return.
 pub fn put_row_returned(row: u32, out: &mut [u8]) -> usize
-    ensures { λ r. ⌜ Put (rowReturned row) (now (out .entry)) 0 r (now (out .exit)) ⌝ }
+    ensures { λ r. ⌜ Puts noteRoom (rowReturned row) (now (out .entry)) 0 r (now (out .exit)) ⌝ }
 {
     let word = text::put_text(b"row ", out, 0);
     let next = text::put_decimal(row as u64, out, word);
@@ -77,7 +83,7 @@ pub fn put_row_returned(row: u32, out: &mut [u8]) -> usize
 
 // Which line of a question has a carriage return.
 pub fn put_line_returned(line: u64, out: &mut [u8]) -> usize
-    ensures { λ r. ⌜ Put (lineReturned line) (now (out .entry)) 0 r (now (out .exit)) ⌝ }
+    ensures { λ r. ⌜ Puts noteRoom (lineReturned line) (now (out .entry)) 0 r (now (out .exit)) ⌝ }
 {
     let word = text::put_text(b"line ", out, 0);
     let next = text::put_decimal(line, out, word);
@@ -90,7 +96,7 @@ pub fn put_line_returned(line: u64, out: &mut [u8]) -> usize
 
 // What the numbers of a line are.
 fn put_expected(line: u64, out: &mut [u8], at: usize) -> usize
-    ensures { λ r. ⌜ Put (expected line) (now (out .entry)) at r (now (out .exit)) ⌝ }
+    ensures { λ r. ⌜ Puts 25 (expected line) (now (out .entry)) at r (now (out .exit)) ⌝ }
 {
     if line == 1 {
         text::put_text(b"A, c, h, mK\n", out, at)
@@ -101,7 +107,7 @@ fn put_expected(line: u64, out: &mut [u8], at: usize) -> usize
 
 // Which line of a question is not what was expected.
 pub fn put_line_bad(line: u64, out: &mut [u8]) -> usize
-    ensures { λ r. ⌜ Put (lineBad line) (now (out .entry)) 0 r (now (out .exit)) ⌝ }
+    ensures { λ r. ⌜ Puts noteRoom (lineBad line) (now (out .entry)) 0 r (now (out .exit)) ⌝ }
 {
     let word = text::put_text(b"line ", out, 0);
     let number = text::put_decimal(line, out, word);

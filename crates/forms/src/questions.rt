@@ -6,7 +6,7 @@ ghost use Prim.Native.Nat.{_+_, _≤_, min};
 ghost use mathlib.Core.Path.{_≡_};
 ghost use lib.ListN.{length};
 ghost use Rattle.rows.specs.Rows.{rowsH};
-ghost use Rattle.text.specs.Put.{Put};
+ghost use Rattle.text.specs.Puts.{Stands};
 ghost use Rattle.console.specs.Limits.{pageRoom};
 ghost use Rattle.console.specs.Answers.{Judged};
 ghost use Rattle.forms.specs.Limits.{keptNumbers, keptLines};
@@ -86,7 +86,7 @@ pub fn kept(lines: u64) -> usize
     }
 }
 
-// The printed walk of a question of so many lines.
+// The printed walk of a question of so many lines: the whole page stands in the buffer.
 pub fn put_page(
     lines: u64,
     numbers: &[i64],
@@ -97,7 +97,7 @@ pub fn put_page(
     at: usize,
 ) -> usize
     requires { ⌜ Judged verdict (now sheet) × (length (now numbers) ≡ keptNumbers) × (1 ≤ lines) × (at + pageRoom ≤ length (now out)) × (now air ≡ rowsH) ⌝ }
-    ensures { λ r. ⌜ Put (questionPage verdict (now (sheet .entry)) lines (now (numbers .entry))) (now (out .entry)) at r (now (out .exit)) ⌝ }
+    ensures { λ r. ⌜ Stands (questionPage verdict (now (sheet .entry)) lines (now (numbers .entry))) (now (out .entry)) at r (now (out .exit)) ⌝ }
 {
     let start = gas::inner::charge_in(numbers);
     let t = Millikelvin(numbers[3]);

@@ -2,7 +2,8 @@
 use sheet::SheetAnswer;
 ghost use Prim.Native.Nat.{_≤_};
 ghost use lib.ListN.{length, take};
-ghost use Rattle.text.specs.Put.{Put};
+ghost use Rattle.text.specs.Puts.{Puts};
+ghost use Rattle.wording.specs.Limits.{refusalRoom};
 ghost use Rattle.console.specs.Answers.{Verdict};
 ghost use Rattle.forms.specs.Sheets.{verdictWords, Reported};
 
@@ -25,7 +26,7 @@ pub fn judge(n: usize, bytes: &[u8], list: &mut [u32]) -> SheetAnswer
 
 // `accepted`, or the refusal.
 fn put_word(verdict: SheetAnswer, out: &mut [u8]) -> usize
-    ensures { λ r. ⌜ Put (verdictWords verdict) (now (out .entry)) 0 r (now (out .exit)) ⌝ }
+    ensures { λ r. ⌜ Puts refusalRoom (verdictWords verdict) (now (out .entry)) 0 r (now (out .exit)) ⌝ }
 {
     match verdict {
         SheetAnswer::Good => text::put_text(b"accepted", out, 0),

@@ -6,6 +6,7 @@ use mathlib.Core.List.{List, [], _∷_, _++_, map}
 use lib.Dec.{eqb}
 use lib.IntN.{ℤ, pos}
 use lib.ListN.{length}
+use Rattle.text.specs.Bytes.{bytesOf}
 use Rattle.text.specs.Decimal.{decimal, decimalZ}
 use Rattle.refusal.specs.declared.Refusal.{Refusal}
 use Rattle.refusal.specs.declared.Refusal.the-variants.{Plain, At}
@@ -16,13 +17,11 @@ use Rattle.gas.specs.declared.Charge.{Charge}
 use Rattle.walk.specs.Walk.{Course, done, stopped}
 use Rattle.marking.specs.declared.inner.StationNumbers.{StationNumbers}
 
--- ok
 abbrev pub okText : List ℕ
-okText = 111 ∷ 107 ∷ []
+okText = bytesOf "ok"
 
--- refused
 abbrev pub refusedText : List ℕ
-refusedText = 114 ∷ 101 ∷ 102 ∷ 117 ∷ 115 ∷ 101 ∷ 100 ∷ []
+refusedText = bytesOf "refused"
 
 -- numbers, a tab before each
 abbrev pub fieldsText : List ℤ → List ℕ
@@ -81,18 +80,10 @@ productsText p =
 abbrev pub burntText : Told Products → List ℕ
 burntText = toldText productsText
 
--- counts
-abbrev pub countsText : List ℕ
-countsText = 99 ∷ 111 ∷ 117 ∷ 110 ∷ 116 ∷ 115 ∷ []
-
--- misses
-abbrev pub missesText : List ℕ
-missesText = 109 ∷ 105 ∷ 115 ∷ 115 ∷ 101 ∷ 115 ∷ []
-
 -- a mark
 abbrev pub verdictText : Bool → List ℕ
-verdictText true = countsText
-verdictText false = missesText
+verdictText true = bytesOf "counts"
+verdictText false = bytesOf "misses"
 
 abbrev pub markText : Told Bool → List ℕ
 markText = toldText verdictText
@@ -102,11 +93,7 @@ markText = toldText verdictText
 abbrev pub stateText : Charge → ℤ → List ℕ
 stateText ch mk = (((9 ∷ decimalZ (ch .air)) ++ (9 ∷ decimalZ (ch .carbon))) ++ (9 ∷ decimalZ (ch .hydrogen))) ++ (9 ∷ decimalZ mk)
 
--- stopped
-abbrev pub stoppedText : List ℕ
-stoppedText = 115 ∷ 116 ∷ 111 ∷ 112 ∷ 112 ∷ 101 ∷ 100 ∷ []
-
 -- how a walk ended
 abbrev pub courseText : Course → List ℕ
 courseText (done n ch mk) = (okText ++ (9 ∷ decimal n)) ++ stateText ch mk
-courseText (stopped n number ch mk) = ((stoppedText ++ (9 ∷ decimal n)) ++ (9 ∷ decimal number)) ++ stateText ch mk
+courseText (stopped n number ch mk) = ((bytesOf "stopped" ++ (9 ∷ decimal n)) ++ (9 ∷ decimal number)) ++ stateText ch mk

@@ -1,5 +1,5 @@
-// The wording of an answer (docs/PROGRAM.md): what a call told, as text put into a lent buffer, part after part, as far as there is room.
-// Each function promises the bytes of one definition of specs/Texts.antt, and that all others stay. All are inner doors of the programs.
+// The wording of an answer (docs/PROGRAM.md): what a call told, as text put into a lent buffer, part after part.
+// Each function promises the bytes of one definition of specs/Texts.antt, that all others stay, and the most bytes that the text has, by specs/Limits.antt. All are inner doors of the programs.
 use air::Millikelvin;
 use air::PsiAnswer;
 use air::Reading;
@@ -12,31 +12,40 @@ use marking::MarkAnswer;
 use marking::inner::NumbersAnswer;
 use refusal::Refusal;
 use walk::WalkAnswer;
-ghost use Prim.Native.Nat.{_≤_};
+ghost use Prim.Native.Nat.{_*_, _≤_};
 ghost use mathlib.Core.Path.{_≡_};
 ghost use mathlib.Core.List.{_∷_, map};
 ghost use lib.ListN.{length, take};
 ghost use lib.IntN.{pos};
 ghost use Rattle.text.specs.Decimal.{decimal, decimalZ};
-ghost use Rattle.text.specs.Put.{Put};
+ghost use Rattle.text.specs.Puts.{Puts};
 ghost use Rattle.air.specs.Answers.{paperReading, paperPsi};
 ghost use Rattle.gas.specs.Answers.{paperHeat, paperSpecific, paperTemperature};
 ghost use Rattle.walk.specs.Walk.{paperWalk};
 ghost use Rattle.marking.specs.Figures.{paperNumbers};
 ghost use Rattle.marking.specs.Marking.{paperMark};
+ghost use Rattle.wording.specs.Limits.{field, small, refusalRoom, valuesRoom, looksRoom, inverseRoom, stateRoom, courseRoom};
 ghost use Rattle.wording.specs.Texts.{refusalText, toldText, fieldsText, used, countedText, readingText, inverseText, productsText, wholeText, stationText, markText, stateText, courseText};
 
 // A tab and a number.
 pub fn put_number(n: u64, out: &mut [u8], at: usize) -> usize
-    ensures { λ r. ⌜ Put (9 ∷ decimal n) (now (out .entry)) at r (now (out .exit)) ⌝ }
+    ensures { λ r. ⌜ Puts field (9 ∷ decimal n) (now (out .entry)) at r (now (out .exit)) ⌝ }
 {
     let next = text::put_byte(9, out, at);
     text::put_decimal(n, out, next)
 }
 
+// A tab and a number of 32 bits: the same text, and a narrower bound.
+pub fn put_small(n: u32, out: &mut [u8], at: usize) -> usize
+    ensures { λ r. ⌜ Puts small (9 ∷ decimal n) (now (out .entry)) at r (now (out .exit)) ⌝ }
+{
+    let next = text::put_byte(9, out, at);
+    text::put_decimal(n as u64, out, next)
+}
+
 // A tab and a signed number.
 pub fn put_signed(z: i64, out: &mut [u8], at: usize) -> usize
-    ensures { λ r. ⌜ Put (9 ∷ decimalZ z) (now (out .entry)) at r (now (out .exit)) ⌝ }
+    ensures { λ r. ⌜ Puts field (9 ∷ decimalZ z) (now (out .entry)) at r (now (out .exit)) ⌝ }
 {
     let next = text::put_byte(9, out, at);
     text::put_whole(z, out, next)
@@ -44,21 +53,21 @@ pub fn put_signed(z: i64, out: &mut [u8], at: usize) -> usize
 
 // `refused`, the number and, where there is one, the row.
 pub fn put_refusal(refusal: Refusal, out: &mut [u8], at: usize) -> usize
-    ensures { λ r. ⌜ Put (refusalText refusal) (now (out .entry)) at r (now (out .exit)) ⌝ }
+    ensures { λ r. ⌜ Puts refusalRoom (refusalText refusal) (now (out .entry)) at r (now (out .exit)) ⌝ }
 {
     let next = text::put_text(b"refused", out, at);
     match refusal {
-        Refusal::Plain(number) => put_number(number as u64, out, next),
+        Refusal::Plain(number) => put_small(number, out, next),
         Refusal::At(number, row) => {
-            let after = put_number(number as u64, out, next);
-            put_number(row as u64, out, after)
+            let after = put_small(number, out, next);
+            put_small(row, out, after)
         }
     }
 }
 
 // `ok` and a reading of the air table, or its refusal.
 pub fn put_reading(reading: Reading, out: &mut [u8], at: usize) -> usize
-    ensures { λ r. ⌜ Put (readingText (paperReading reading)) (now (out .entry)) at r (now (out .exit)) ⌝ }
+    ensures { λ r. ⌜ Puts valuesRoom (readingText (paperReading reading)) (now (out .entry)) at r (now (out .exit)) ⌝ }
 {
     match reading {
         Reading::Is(n) => {
@@ -86,12 +95,12 @@ pub fn count_looks(looks: &[u32]) -> usize
 // The first n looks, a tab before each.
 fn put_first(looks: &[u32], n: usize, out: &mut [u8], at: usize) -> usize
     requires { ⌜ (n ≤ length (now looks)) × (at ≤ length (now out)) ⌝ }
-    ensures { λ r. ⌜ Put (fieldsText (map pos (take n (now (looks .entry))))) (now (out .entry)) at r (now (out .exit)) ⌝ }
+    ensures { λ r. ⌜ Puts (small * n) (fieldsText (map pos (take n (now (looks .entry))))) (now (out .entry)) at r (now (out .exit)) ⌝ }
 {
     let mut next = at;
     let mut i = 0;
     while i < n {
-        next = put_number(looks[i] as u64, out, next);
+        next = put_small(looks[i], out, next);
         i += 1;
     }
     next
@@ -99,7 +108,7 @@ fn put_first(looks: &[u32], n: usize, out: &mut [u8], at: usize) -> usize
 
 // The number of looks that eleven places hold, and the looks.
 pub fn put_looks(looks: &[u32], out: &mut [u8], at: usize) -> usize
-    ensures { λ r. ⌜ Put (countedText (used (now (looks .entry)))) (now (out .entry)) at r (now (out .exit)) ⌝ }
+    ensures { λ r. ⌜ Puts (looksRoom (length (now (looks .entry)))) (countedText (used (now (looks .entry)))) (now (out .entry)) at r (now (out .exit)) ⌝ }
 {
     let n = count_looks(looks);
     let next = put_number(n as u64, out, at);
@@ -108,7 +117,7 @@ pub fn put_looks(looks: &[u32], out: &mut [u8], at: usize) -> usize
 
 // `ok`, the mK of a psi, its rest and the looks that the places hold; or the refusal.
 pub fn put_psi(answer: PsiAnswer, looks: &[u32], out: &mut [u8], at: usize) -> usize
-    ensures { λ r. ⌜ Put (inverseText (paperPsi answer) (used (now (looks .entry)))) (now (out .entry)) at r (now (out .exit)) ⌝ }
+    ensures { λ r. ⌜ Puts (inverseRoom (length (now (looks .entry)))) (inverseText (paperPsi answer) (used (now (looks .entry)))) (now (out .entry)) at r (now (out .exit)) ⌝ }
 {
     match answer {
         PsiAnswer::At(t, rest) => {
@@ -123,7 +132,7 @@ pub fn put_psi(answer: PsiAnswer, looks: &[u32], out: &mut [u8], at: usize) -> u
 
 // `ok` and the products of a charge.
 pub fn put_products(products: Products, out: &mut [u8], at: usize) -> usize
-    ensures { λ r. ⌜ Put (productsText products) (now (out .entry)) at r (now (out .exit)) ⌝ }
+    ensures { λ r. ⌜ Puts valuesRoom (productsText products) (now (out .entry)) at r (now (out .exit)) ⌝ }
 {
     let ok = text::put_text(b"ok", out, at);
     let co2 = put_number(products.co2, out, ok);
@@ -135,7 +144,7 @@ pub fn put_products(products: Products, out: &mut [u8], at: usize) -> usize
 
 // `ok` and a gas heat or a content, or its refusal.
 pub fn put_heat(answer: HeatAnswer, out: &mut [u8], at: usize) -> usize
-    ensures { λ r. ⌜ Put (wholeText (paperHeat answer)) (now (out .entry)) at r (now (out .exit)) ⌝ }
+    ensures { λ r. ⌜ Puts valuesRoom (wholeText (paperHeat answer)) (now (out .entry)) at r (now (out .exit)) ⌝ }
 {
     match answer {
         HeatAnswer::Is(heat) => {
@@ -148,7 +157,7 @@ pub fn put_heat(answer: HeatAnswer, out: &mut [u8], at: usize) -> usize
 
 // `ok` and a specific content, or its refusal.
 pub fn put_specific(answer: SpecificAnswer, out: &mut [u8], at: usize) -> usize
-    ensures { λ r. ⌜ Put (wholeText (paperSpecific answer)) (now (out .entry)) at r (now (out .exit)) ⌝ }
+    ensures { λ r. ⌜ Puts valuesRoom (wholeText (paperSpecific answer)) (now (out .entry)) at r (now (out .exit)) ⌝ }
 {
     match answer {
         SpecificAnswer::Is(n) => {
@@ -161,7 +170,7 @@ pub fn put_specific(answer: SpecificAnswer, out: &mut [u8], at: usize) -> usize
 
 // `ok`, the mK of a heat, its rest and the looks that the places hold; or the refusal.
 pub fn put_temperature(answer: TemperatureAnswer, looks: &[u32], out: &mut [u8], at: usize) -> usize
-    ensures { λ r. ⌜ Put (inverseText (paperTemperature answer) (used (now (looks .entry)))) (now (out .entry)) at r (now (out .exit)) ⌝ }
+    ensures { λ r. ⌜ Puts (inverseRoom (length (now (looks .entry)))) (inverseText (paperTemperature answer) (used (now (looks .entry)))) (now (out .entry)) at r (now (out .exit)) ⌝ }
 {
     match answer {
         TemperatureAnswer::At(t, rest) => {
@@ -176,7 +185,7 @@ pub fn put_temperature(answer: TemperatureAnswer, looks: &[u32], out: &mut [u8],
 
 // `ok`, a station's mK, specific content and total mass, or its refusal.
 pub fn put_station(answer: NumbersAnswer, out: &mut [u8], at: usize) -> usize
-    ensures { λ r. ⌜ Put (stationText (paperNumbers answer)) (now (out .entry)) at r (now (out .exit)) ⌝ }
+    ensures { λ r. ⌜ Puts valuesRoom (stationText (paperNumbers answer)) (now (out .entry)) at r (now (out .exit)) ⌝ }
 {
     match answer {
         NumbersAnswer::Are(n) => {
@@ -191,7 +200,7 @@ pub fn put_station(answer: NumbersAnswer, out: &mut [u8], at: usize) -> usize
 
 // `counts` or `misses`, or the refusal.
 pub fn put_mark(answer: MarkAnswer, out: &mut [u8], at: usize) -> usize
-    ensures { λ r. ⌜ Put (markText (paperMark answer)) (now (out .entry)) at r (now (out .exit)) ⌝ }
+    ensures { λ r. ⌜ Puts valuesRoom (markText (paperMark answer)) (now (out .entry)) at r (now (out .exit)) ⌝ }
 {
     match answer {
         MarkAnswer::Counts => text::put_text(b"counts", out, at),
@@ -202,7 +211,7 @@ pub fn put_mark(answer: MarkAnswer, out: &mut [u8], at: usize) -> usize
 
 // A, c, h and mK.
 fn put_state(charge: Charge, t: Millikelvin, out: &mut [u8], at: usize) -> usize
-    ensures { λ r. ⌜ Put (stateText charge (t .0)) (now (out .entry)) at r (now (out .exit)) ⌝ }
+    ensures { λ r. ⌜ Puts stateRoom (stateText charge (t .0)) (now (out .entry)) at r (now (out .exit)) ⌝ }
 {
     let air = put_signed(charge.air, out, at);
     let carbon = put_signed(charge.carbon, out, air);
@@ -212,18 +221,18 @@ fn put_state(charge: Charge, t: Millikelvin, out: &mut [u8], at: usize) -> usize
 
 // How a walk ended.
 pub fn put_course(answer: WalkAnswer, out: &mut [u8], at: usize) -> usize
-    ensures { λ r. ⌜ Put (toldText courseText (paperWalk answer)) (now (out .entry)) at r (now (out .exit)) ⌝ }
+    ensures { λ r. ⌜ Puts courseRoom (toldText courseText (paperWalk answer)) (now (out .entry)) at r (now (out .exit)) ⌝ }
 {
     match answer {
         WalkAnswer::Done(n, charge, t) => {
             let ok = text::put_text(b"ok", out, at);
-            let steps = put_number(n as u64, out, ok);
+            let steps = put_small(n, out, ok);
             put_state(charge, t, out, steps)
         }
         WalkAnswer::Stopped(n, number, charge, t) => {
             let stopped = text::put_text(b"stopped", out, at);
-            let steps = put_number(n as u64, out, stopped);
-            let refusal = put_number(number as u64, out, steps);
+            let steps = put_small(n, out, stopped);
+            let refusal = put_small(number, out, steps);
             put_state(charge, t, out, refusal)
         }
         WalkAnswer::Refused(refusal) => put_refusal(refusal, out, at),

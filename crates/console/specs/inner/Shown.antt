@@ -6,10 +6,12 @@ use lib.IntN.{ℤ, pos}
 use lib.ListN.{length, take, drop, getD}
 use Rattle.refusal.specs.Refusals.{Told, gives, refused}
 use Rattle.air.specs.Limits.{lookPlaces}
+use Rattle.walk.specs.Limits.{mostSteps}
 use Rattle.walk.specs.Walk.{Trace, Course, done, stopped}
 use Rattle.console.specs.declared.walks.Layout.{Layout}
 use Rattle.console.specs.declared.walks.Layout.the-variants.{Line, Page}
 use Rattle.wording.specs.Texts.{toldText, used, courseText}
+use Rattle.console.specs.Limits.{inLineRoom, onPageRoom, replyRoom, pageRoom}
 use Rattle.console.specs.Walks.{stepText, walkText, headerText, endText, printedWalk}
 
 -- how many steps were done
@@ -32,8 +34,18 @@ abbrev pub layoutText : Layout → Told Trace → List ℕ
 layoutText Line told = walkText told
 layoutText Page told = printedWalk told
 
--- the lists have places for n steps
+-- the most bytes of a step, and of a walk
+abbrev pub stepRoom : Layout → ℕ
+stepRoom Line = inLineRoom
+stepRoom Page = onPageRoom
+
+abbrev pub walkRoom : Layout → ℕ
+walkRoom Line = replyRoom
+walkRoom Page = pageRoom
+
+-- the lists have places for n steps, no more than the longest walk has
 pub record Holds (n : ℕ) (t r : List ℤ) (l : List ℕ) : Type 0 where
+  pub few : n ≤ mostSteps
   pub temperatures : n ≤ length t
   pub rests : n ≤ length r
   pub looks : lookPlaces * n ≤ length l

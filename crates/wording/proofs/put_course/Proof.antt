@@ -1,5 +1,6 @@
--- `put_course`: `ok` or `stopped` with its numbers, or the refusal, each followed by what `courseText` says next (`put-then`).
-use Rattle.text.specs.PutLaws.{put-then}
+-- `put_course`: `ok` or `stopped` with its numbers, or the refusal, each followed by what `courseText` says next (`puts-then`).
+use Rattle.text.specs.PutsLaws.{puts-text, puts-then, puts-wider}
+use native.Mathlib.Omega.{arith}
 use borrow.Author.Needs.{needs}
 use Rattle.wording.proofs.put_course.Statement.{statement}
 use Rattle.wording.proofs.put_course.Tie as tie
@@ -13,11 +14,8 @@ slice-aggregate-put-text c = search needs
 put-text-requires : tie.Need-put-text-requires
 put-text-requires c κs = search needs
 
-cast-put-number : tie.Need-cast-put-number
-cast-put-number c = search needs
-
-put-number-requires : tie.Need-put-number-requires
-put-number-requires c κs = search needs
+put-small-requires : tie.Need-put-small-requires
+put-small-requires c κs = search needs
 
 put-state-requires : tie.Need-put-state-requires
 put-state-requires c κs = search needs
@@ -31,17 +29,11 @@ slice-aggregate-put-text-2 c = search needs
 put-text-requires-2 : tie.Need-put-text-requires-2
 put-text-requires-2 c κs = search needs
 
-cast-put-number-2 : tie.Need-cast-put-number-2
-cast-put-number-2 c = search needs
+put-small-requires-2 : tie.Need-put-small-requires-2
+put-small-requires-2 c κs = search needs
 
-put-number-requires-2 : tie.Need-put-number-requires-2
-put-number-requires-2 c κs = search needs
-
-cast-put-number-3 : tie.Need-cast-put-number-3
-cast-put-number-3 c = search needs
-
-put-number-requires-3 : tie.Need-put-number-requires-3
-put-number-requires-3 c κs = search needs
+put-small-requires-3 : tie.Need-put-small-requires-3
+put-small-requires-3 c κs = search needs
 
 put-state-requires-2 : tie.Need-put-state-requires-2
 put-state-requires-2 c κs = search needs
@@ -57,28 +49,30 @@ same-length c = search needs
 
 returns : tie.Need-returns
 returns c =
-    let at-put-number = c .before .before .before .before .before .before in
-    let at-put-text = at-put-number .before .before .before .before in
+    let at-put-small = c .before .before .before .before .before .before in
+    let at-put-text = at-put-small .before .before .before .before in
     let at-answer = at-put-text .before .before .before .before in
-    rw (at-answer .answer .given .1) (put-then (put-then (at-put-text .put-text .ensures) (at-put-number .put-number .ensures)) (c .before .before .put-state .ensures))
+    rw (at-answer .answer .given .1)
+    (puts-wider (omega arith) (puts-then (puts-then (puts-text (at-put-text .put-text .ensures)) (at-put-small .put-small .ensures)) (c .before .before .put-state .ensures)))
 
 same-length-2 : tie.Need-same-length-2
 same-length-2 c = search needs
 
 returns-2 : tie.Need-returns-2
 returns-2 c =
-    let at-put-number3 = c .before .before .before .before .before .before in
-    let at-put-number2 = at-put-number3 .before .before .before .before in
-    let at-put-text2 = at-put-number2 .before .before .before .before in
+    let at-put-small3 = c .before .before .before .before .before .before in
+    let at-put-small2 = at-put-small3 .before .before .before .before in
+    let at-put-text2 = at-put-small2 .before .before .before .before in
     let at-answer2 = at-put-text2 .before .before .before .before in
     rw (at-answer2 .answer2 .given .1)
-    (put-then (put-then (put-then (at-put-text2 .put-text2 .ensures) (at-put-number2 .put-number2 .ensures)) (at-put-number3 .put-number3 .ensures)) (c .before .before .put-state2 .ensures))
+    (puts-then (puts-then (puts-then (puts-text (at-put-text2 .put-text2 .ensures)) (at-put-small2 .put-small2 .ensures)) (at-put-small3 .put-small3 .ensures))
+    (c .before .before .put-state2 .ensures))
 
 same-length-3 : tie.Need-same-length-3
 same-length-3 c = search needs
 
 returns-3 : tie.Need-returns-3
-returns-3 c = rw (c .before .before .before .before .before .answer3 .given .1) (c .before .before .put-refusal .ensures)
+returns-3 c = rw (c .before .before .before .before .before .answer3 .given .1) (puts-wider (omega arith) (c .before .before .put-refusal .ensures))
 
 pub put-course-spec : {M : Type 1} → statement M
 put-course-spec =
@@ -87,16 +81,13 @@ put-course-spec =
     enum-known-answer
     slice-aggregate-put-text
     put-text-requires
-    cast-put-number
-    put-number-requires
+    put-small-requires
     put-state-requires
     enum-known-answer-2
     slice-aggregate-put-text-2
     put-text-requires-2
-    cast-put-number-2
-    put-number-requires-2
-    cast-put-number-3
-    put-number-requires-3
+    put-small-requires-2
+    put-small-requires-3
     put-state-requires-2
     enum-known-answer-3
     put-refusal-requires

@@ -1,8 +1,9 @@
--- `put_heat`: `ok` and the heat, or the refusal: the text of what document 01 tells (`put-then`).
+-- `put_heat`: `ok` and the heat, or the refusal: the text of what document 01 tells (`puts-then`).
 use Rattle.signed.specs.Zed.{back}
 use mir.Val.{SFits}
 use mir.Syntax.{w64}
-use Rattle.text.specs.PutLaws.{put-then}
+use Rattle.text.specs.PutsLaws.{puts-text, puts-then, puts-wider}
+use native.Mathlib.Omega.{arith}
 use borrow.Author.Needs.{needs}
 use Rattle.wording.proofs.put_heat.Statement.{statement}
 use Rattle.wording.proofs.put_heat.Tie as tie
@@ -33,13 +34,13 @@ returns c =
     let at-answer = c .before .before .before .before .before .before .before .before .before .before .before in
     let f0 : SFits w64 (at-answer .answer .given .0 .0 .0) = search needs in
     let at-put-text = c .before .before .before .before .before .before .before in
-    rw (at-answer .answer .given .1) (rw (back f0) at (put-then (at-put-text .put-text .ensures) (c .before .before .put-signed .ensures)))
+    rw (at-answer .answer .given .1) (puts-wider (omega arith) (rw (back f0) at (puts-then (puts-text (at-put-text .put-text .ensures)) (c .before .before .put-signed .ensures))))
 
 same-length-2 : tie.Need-same-length-2
 same-length-2 c = search needs
 
 returns-2 : tie.Need-returns-2
-returns-2 c = rw (c .before .before .before .before .before .answer2 .given .1) (c .before .before .put-refusal .ensures)
+returns-2 c = rw (c .before .before .before .before .before .answer2 .given .1) (puts-wider (omega arith) (c .before .before .put-refusal .ensures))
 
 pub put-heat-spec : {M : Type 1} → statement M
 put-heat-spec =

@@ -1,4 +1,6 @@
 -- `put_mark`: one word for a number that counts and one for a number that misses, or the refusal.
+use Rattle.text.specs.PutsLaws.{puts-text, puts-wider}
+use native.Mathlib.Omega.{arith}
 use borrow.Author.Needs.{needs}
 use Rattle.wording.proofs.put_mark.Statement.{statement}
 use Rattle.wording.proofs.put_mark.Tie as tie
@@ -31,19 +33,19 @@ same-length : tie.Need-same-length
 same-length c = search needs
 
 returns : tie.Need-returns
-returns c = rw (c .before .before .before .before .before .enum-told .given .1) (c .before .before .put-text .ensures)
+returns c = rw (c .before .before .before .before .before .enum-told .given .1) (puts-wider (omega arith) (puts-text (c .before .before .put-text .ensures)))
 
 same-length-2 : tie.Need-same-length-2
 same-length-2 c = search needs
 
 returns-2 : tie.Need-returns-2
-returns-2 c = rw (c .before .before .before .before .before .enum-told2 .given .1) (c .before .before .put-text2 .ensures)
+returns-2 c = rw (c .before .before .before .before .before .enum-told2 .given .1) (puts-wider (omega arith) (puts-text (c .before .before .put-text2 .ensures)))
 
 same-length-3 : tie.Need-same-length-3
 same-length-3 c = search needs
 
 returns-3 : tie.Need-returns-3
-returns-3 c = rw (c .before .before .before .before .before .answer .given .1) (c .before .before .put-refusal .ensures)
+returns-3 c = rw (c .before .before .before .before .before .answer .given .1) (puts-wider (omega arith) (c .before .before .put-refusal .ensures))
 
 pub put-mark-spec : {M : Type 1} → statement M
 put-mark-spec =

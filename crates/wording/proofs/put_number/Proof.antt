@@ -1,5 +1,5 @@
--- `put_number`: a tab, then the number in decimal behind it (`put-then`).
-use Rattle.text.specs.PutLaws.{put-then}
+-- `put_number`: a tab, then the number in decimal behind it (`puts-then`), as long as its word makes it (`puts-decimal`).
+use Rattle.text.specs.PutsLaws.{puts-text, puts-decimal, puts-then}
 use borrow.Author.Needs.{needs}
 use Rattle.wording.proofs.put_number.Statement.{statement}
 use Rattle.wording.proofs.put_number.Tie as tie
@@ -14,7 +14,10 @@ same-length : tie.Need-same-length
 same-length c = search needs
 
 returns : tie.Need-returns
-returns c = (put-then (c .before .before .before .before .before .before .put-byte .ensures) (c .before .before .put-decimal .ensures))
+returns c =
+    let at-put-byte = c .before .before .before .before .before .before in
+    let at-start = at-put-byte .before .before .before in
+    puts-then (puts-text (at-put-byte .put-byte .ensures)) (puts-decimal (at-start .fits .n) (c .before .before .put-decimal .ensures))
 
 pub put-number-spec : {M : Type 1} → statement M
 put-number-spec = tie.close (tie.spec put-byte-requires put-decimal-requires same-length returns)

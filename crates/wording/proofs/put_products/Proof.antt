@@ -1,5 +1,5 @@
--- `put_products`: `ok` and the five products in the paper's order, each put behind the one before (`put-then`).
-use Rattle.text.specs.PutLaws.{put-then}
+-- `put_products`: `ok` and the five products in the paper's order, each put behind the one before (`puts-then`).
+use Rattle.text.specs.PutsLaws.{puts-text, puts-then}
 use borrow.Author.Needs.{needs}
 use Rattle.wording.proofs.put_products.Statement.{statement}
 use Rattle.wording.proofs.put_products.Tie as tie
@@ -35,9 +35,9 @@ returns c =
     let at-put-number2 = at-put-number3 .before .before .before .before in
     let at-put-number = at-put-number2 .before .before .before .before in
     let at-put-text = at-put-number .before .before .before .before in
-    (put-then
-    (put-then
-    (put-then (put-then (put-then (at-put-text .put-text .ensures) (at-put-number .put-number .ensures)) (at-put-number2 .put-number2 .ensures)) (at-put-number3 .put-number3 .ensures))
+    (puts-then
+    (puts-then
+    (puts-then (puts-then (puts-then (puts-text (at-put-text .put-text .ensures)) (at-put-number .put-number .ensures)) (at-put-number2 .put-number2 .ensures)) (at-put-number3 .put-number3 .ensures))
     (at-put-number4 .put-number4 .ensures))
     (c .before .before .put-number5 .ensures))
 

@@ -1,5 +1,6 @@
--- `put_reading`: `ok` and the reading, or the refusal (`put-then`).
-use Rattle.text.specs.PutLaws.{put-then}
+-- `put_reading`: `ok` and the reading, or the refusal (`puts-then`).
+use Rattle.text.specs.PutsLaws.{puts-text, puts-then, puts-wider}
+use native.Mathlib.Omega.{arith}
 use borrow.Author.Needs.{needs}
 use Rattle.wording.proofs.put_reading.Statement.{statement}
 use Rattle.wording.proofs.put_reading.Tie as tie
@@ -29,13 +30,13 @@ returns : tie.Need-returns
 returns c =
     let at-put-text = c .before .before .before .before .before .before in
     let at-reading = at-put-text .before .before .before .before in
-    rw (at-reading .reading .given .1) (put-then (at-put-text .put-text .ensures) (c .before .before .put-number .ensures))
+    rw (at-reading .reading .given .1) (puts-wider (omega arith) (puts-then (puts-text (at-put-text .put-text .ensures)) (c .before .before .put-number .ensures)))
 
 same-length-2 : tie.Need-same-length-2
 same-length-2 c = search needs
 
 returns-2 : tie.Need-returns-2
-returns-2 c = rw (c .before .before .before .before .before .reading2 .given .1) (c .before .before .put-refusal .ensures)
+returns-2 c = rw (c .before .before .before .before .before .reading2 .given .1) (puts-wider (omega arith) (c .before .before .put-refusal .ensures))
 
 pub put-reading-spec : {M : Type 1} → statement M
 put-reading-spec =

@@ -1,5 +1,5 @@
--- `put_state`: the charge's three numbers and the temperature, each behind the one before (`put-then`).
-use Rattle.text.specs.PutLaws.{put-then}
+-- `put_state`: the charge's three numbers and the temperature, each behind the one before (`puts-then`).
+use Rattle.text.specs.PutsLaws.{puts-then}
 use mir.Syntax.{w64}
 use mir.Val.{SFits}
 use Rattle.signed.specs.Zed.{back}
@@ -32,8 +32,8 @@ returns c =
     let at-put-signed3 = c .before .before .before .before .before .before .before in
     let at-put-signed2 = at-put-signed3 .before .before .before .before .before in
     let at-put-signed = at-put-signed2 .before .before .before .before .before in
-    put-then
-    (put-then (put-then (rw (back f0) at (at-put-signed .put-signed .ensures)) (rw (back f1) at (at-put-signed2 .put-signed2 .ensures))) (rw (back f2) at (at-put-signed3 .put-signed3 .ensures)))
+    puts-then
+    (puts-then (puts-then (rw (back f0) at (at-put-signed .put-signed .ensures)) (rw (back f1) at (at-put-signed2 .put-signed2 .ensures))) (rw (back f2) at (at-put-signed3 .put-signed3 .ensures)))
     (rw (back f3) at (c .before .before .put-signed4 .ensures))
 
 pub put-state-spec : {M : Type 1} → statement M

@@ -1,8 +1,9 @@
--- `put_station`: `ok`, the mK, the content of 1 g and the mass, each behind the one before (`put-then`), or the refusal.
+-- `put_station`: `ok`, the mK, the content of 1 g and the mass, each behind the one before (`puts-then`), or the refusal.
 use Rattle.signed.specs.Zed.{back}
 use mir.Val.{SFits}
 use mir.Syntax.{w64}
-use Rattle.text.specs.PutLaws.{put-then}
+use Rattle.text.specs.PutsLaws.{puts-text, puts-then, puts-wider}
+use native.Mathlib.Omega.{arith}
 use borrow.Author.Needs.{needs}
 use Rattle.wording.proofs.put_station.Statement.{statement}
 use Rattle.wording.proofs.put_station.Tie as tie
@@ -41,20 +42,21 @@ returns c =
     let f1 : SFits w64 (n .0 .0 .specific) = search needs in
     let f2 : SFits w64 (n .0 .0 .mass) = search needs in
     rw (n .1)
+    (puts-wider (omega arith)
     (rw (back f0, back f1, back f2)
-    at (put-then
-    (put-then
-    (put-then
-    (c .before .before .before .before .before .before .before .before .before .before .before .before .before .before .before .before .before .put-text .ensures)
+    at (puts-then
+    (puts-then
+    (puts-then
+    (puts-text (c .before .before .before .before .before .before .before .before .before .before .before .before .before .before .before .before .before .put-text .ensures))
     (c .before .before .before .before .before .before .before .before .before .before .before .before .put-signed .ensures))
     (c .before .before .before .before .before .before .before .put-signed2 .ensures))
-    (c .before .before .put-signed3 .ensures)))
+    (c .before .before .put-signed3 .ensures))))
 
 same-length-2 : tie.Need-same-length-2
 same-length-2 c = search needs
 
 returns-2 : tie.Need-returns-2
-returns-2 c = rw (c .before .before .before .before .before .answer2 .given .1) (c .before .before .put-refusal .ensures)
+returns-2 c = rw (c .before .before .before .before .before .answer2 .given .1) (puts-wider (omega arith) (c .before .before .put-refusal .ensures))
 
 pub put-station-spec : {M : Type 1} → statement M
 put-station-spec =

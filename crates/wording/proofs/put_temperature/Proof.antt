@@ -1,8 +1,9 @@
--- `put_temperature`: `ok`, the millikelvins, the rest and the used looks, each behind the one before (`put-then`), or the refusal.
+-- `put_temperature`: `ok`, the millikelvins, the rest and the used looks, each behind the one before (`puts-then`), or the refusal.
 use Rattle.signed.specs.Zed.{back}
 use mir.Val.{SFits}
 use mir.Syntax.{w64}
-use Rattle.text.specs.PutLaws.{put-then}
+use Rattle.text.specs.PutsLaws.{puts-text, puts-then, puts-wider}
+use native.Mathlib.Omega.{arith}
 use borrow.Author.Needs.{needs}
 use Rattle.wording.proofs.put_temperature.Statement.{statement}
 use Rattle.wording.proofs.put_temperature.Tie as tie
@@ -44,13 +45,14 @@ returns c =
     let at-put-text = at-put-signed .before .before .before .before .before in
     rw (at-answer .answer .given .1)
     (rw (back f0, back f1)
-    at (put-then (put-then (put-then (at-put-text .put-text .ensures) (at-put-signed .put-signed .ensures)) (at-put-signed2 .put-signed2 .ensures)) (c .before .before .put-looks .ensures)))
+    at (puts-then (puts-then (puts-then (puts-text (at-put-text .put-text .ensures)) (at-put-signed .put-signed .ensures)) (at-put-signed2 .put-signed2 .ensures))
+    (c .before .before .put-looks .ensures)))
 
 same-length-2 : tie.Need-same-length-2
 same-length-2 c = search needs
 
 returns-2 : tie.Need-returns-2
-returns-2 c = rw (c .before .before .before .before .before .answer2 .given .1) (c .before .before .put-refusal .ensures)
+returns-2 c = rw (c .before .before .before .before .before .answer2 .given .1) (puts-wider (omega arith) (c .before .before .put-refusal .ensures))
 
 pub put-temperature-spec : {M : Type 1} → statement M
 put-temperature-spec =

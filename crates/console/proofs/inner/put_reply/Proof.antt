@@ -1,4 +1,5 @@
 -- `put_reply`: a carriage return in the line is an error (`line-returned`); else its first field names the request and the fields behind it are its numbers (`line-is`).
+use Rattle.text.specs.PutsLaws.{puts-text, puts-wider}
 use Rattle.console.specs.AnswersLaws.{line-is, line-returned}
 use Rattle.fields.specs.FieldsLaws.{span-from}
 use native.Mathlib.Omega.{arith}
@@ -26,7 +27,7 @@ returns c =
     let at-start = at-holds-return .before .before .before .before in
     rw
     (line-returned (at-start .args .verdict) (at-start .args .sheet .now) (at-start .args .line .now) (sym (at-holds-return .holds-return .ensures) ∙ at-if1 .if1 .taken))
-    (c .before .before .put-text .ensures)
+    (puts-wider (omega arith) (puts-text (c .before .before .put-text .ensures)))
 
 field-end-requires : tie.Need-field-end-requires
 field-end-requires c κs = search needs

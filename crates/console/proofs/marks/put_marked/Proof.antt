@@ -1,7 +1,9 @@
 -- `put_marked`: a key and a window are two numbers: then marking tells, else the request takes other fields.
+use Rattle.text.specs.PutsLaws.{puts-wider}
 use Rattle.signed.specs.Zed.{back}
 use mir.Val.{SFits}
 use mir.Syntax.{w64}
+use native.Mathlib.Omega.{arith}
 use borrow.Author.Needs.{needs}
 use Rattle.console.proofs.marks.put_marked.Statement.{statement}
 use Rattle.console.proofs.marks.put_marked.Tie as tie
@@ -34,7 +36,7 @@ returns c =
     let f1 : SFits w64 (at-key .key .given .0 .1 .0) = search needs in
     let at-mark = c .before .before .before .before in
     let at-read-two = at-key .before .before in
-    rw (← at-read-two .read-two .ensures, at-key .key .given .1) (rw (back f0, back f1) at (rw (at-mark .mark .ensures) at (c .before .before .put-mark .ensures)))
+    rw (← at-read-two .read-two .ensures, at-key .key .given .1) (puts-wider (omega arith) (rw (back f0, back f1) at (rw (at-mark .mark .ensures) at (c .before .before .put-mark .ensures))))
 
 same-length-2 : tie.Need-same-length-2
 same-length-2 c = search needs

@@ -1,6 +1,8 @@
 -- `ask_psi`: the search writes its looks into places that were all 0, so the used ones are its own (`psi-shown`).
+use Rattle.text.specs.PutsLaws.{puts-wider}
 use Rattle.wording.specs.TextsLaws.{psi-shown}
 use Rattle.signed.specs.Zed.{back}
+use native.Mathlib.Omega.{arith}
 use borrow.Author.Needs.{needs}
 use Rattle.console.proofs.replies.ask_psi.Statement.{statement}
 use Rattle.console.proofs.replies.ask_psi.Tie as tie
@@ -24,7 +26,8 @@ returns : tie.Need-returns
 returns c =
     let at-psi-inverse-lent = c .before .before .before .before .before .before in
     let at-start = at-psi-inverse-lent .before .before .before in
-    rw (back (at-start .fits .target)) at (rw (psi-shown (at-psi-inverse-lent .psi-inverse-lent .ensures)) at (c .before .before .put-psi .ensures))
+    puts-wider (omega arith)
+    (rw (back (at-start .fits .target)) at (rw (psi-shown (at-psi-inverse-lent .psi-inverse-lent .ensures)) at (c .before .before .put-psi .ensures)))
 
 pub ask-psi-spec : {M : Type 1} → statement M
 ask-psi-spec =

@@ -1,4 +1,6 @@
 -- `put_burnt`: the products or the refusal, as document 01 tells them.
+use Rattle.text.specs.PutsLaws.{puts-wider}
+use native.Mathlib.Omega.{arith}
 use borrow.Author.Needs.{needs}
 use Rattle.console.proofs.replies.put_burnt.Statement.{statement}
 use Rattle.console.proofs.replies.put_burnt.Tie as tie
@@ -19,13 +21,13 @@ same-length : tie.Need-same-length
 same-length c = search needs
 
 returns : tie.Need-returns
-returns c = rw (c .before .before .before .before .before .answer .given .1) (c .before .before .put-products .ensures)
+returns c = rw (c .before .before .before .before .before .answer .given .1) (puts-wider (omega arith) (c .before .before .put-products .ensures))
 
 same-length-2 : tie.Need-same-length-2
 same-length-2 c = search needs
 
 returns-2 : tie.Need-returns-2
-returns-2 c = rw (c .before .before .before .before .before .answer2 .given .1) (c .before .before .put-refusal .ensures)
+returns-2 c = rw (c .before .before .before .before .before .answer2 .given .1) (puts-wider (omega arith) (c .before .before .put-refusal .ensures))
 
 pub put-burnt-spec : {M : Type 1} → statement M
 put-burnt-spec =

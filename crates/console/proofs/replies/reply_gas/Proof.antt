@@ -1,10 +1,12 @@
 -- `reply_gas`: what is asked over a good sheet is told, a refused sheet is told as its refusal, other fields are a misfit.
+use Rattle.text.specs.PutsLaws.{puts-wider}
 use Rattle.console.specs.Answers.{Ready}
 use Rattle.console.specs.declared.requests.GasAsk.{GasAsk}
 use mathlib.Core.Path.{subst}
 use Rattle.signed.specs.Zed.{back}
 use mir.Val.{SFits}
 use mir.Syntax.{w64}
+use native.Mathlib.Omega.{arith}
 use borrow.Author.Needs.{needs}
 use Rattle.console.proofs.replies.reply_gas.Statement.{statement}
 use Rattle.console.proofs.replies.reply_gas.Tie as tie
@@ -41,7 +43,7 @@ same-length-2 : tie.Need-same-length-2
 same-length-2 c = search needs
 
 returns-2 : tie.Need-returns-2
-returns-2 c = rw (c .before .before .before .before .before .asked2 .given .1) (c .before .before .put-refusal .ensures)
+returns-2 c = rw (c .before .before .before .before .before .asked2 .given .1) (puts-wider (omega arith) (c .before .before .put-refusal .ensures))
 
 same-length-3 : tie.Need-same-length-3
 same-length-3 c = search needs

@@ -1,5 +1,7 @@
 -- `tell_air`: each reading of air by its own function: the four cases of `airText`.
+use Rattle.text.specs.PutsLaws.{puts-wider}
 use Rattle.signed.specs.Zed.{back}
+use native.Mathlib.Omega.{arith}
 use borrow.Author.Needs.{needs}
 use Rattle.console.proofs.replies.tell_air.Statement.{statement}
 use Rattle.console.proofs.replies.tell_air.Tie as tie
@@ -45,7 +47,7 @@ returns c =
     let at-heat-lent = c .before .before .before .before in
     let at-told = at-heat-lent .before in
     let at-start = at-told .before .before .before in
-    rw (at-told .enum-told .given .1) (rw (back (at-start .fits .number)) at (rw (at-heat-lent .heat-lent .ensures) at (c .before .before .put-reading .ensures)))
+    rw (at-told .enum-told .given .1) (puts-wider (omega arith) (rw (back (at-start .fits .number)) at (rw (at-heat-lent .heat-lent .ensures) at (c .before .before .put-reading .ensures))))
 
 same-length-2 : tie.Need-same-length-2
 same-length-2 c = search needs
@@ -55,7 +57,7 @@ returns-2 c =
     let at-psi-lent = c .before .before .before .before in
     let at-told2 = at-psi-lent .before in
     let at-start = at-told2 .before .before .before in
-    rw (at-told2 .enum-told2 .given .1) (rw (back (at-start .fits .number)) at (rw (at-psi-lent .psi-lent .ensures) at (c .before .before .put-reading2 .ensures)))
+    rw (at-told2 .enum-told2 .given .1) (puts-wider (omega arith) (rw (back (at-start .fits .number)) at (rw (at-psi-lent .psi-lent .ensures) at (c .before .before .put-reading2 .ensures))))
 
 same-length-3 : tie.Need-same-length-3
 same-length-3 c = search needs
@@ -65,7 +67,7 @@ returns-3 c =
     let at-cp-lent = c .before .before .before .before in
     let at-told3 = at-cp-lent .before in
     let at-start = at-told3 .before .before .before in
-    rw (at-told3 .enum-told3 .given .1) (rw (back (at-start .fits .number)) at (rw (at-cp-lent .cp-lent .ensures) at (c .before .before .put-reading3 .ensures)))
+    rw (at-told3 .enum-told3 .given .1) (puts-wider (omega arith) (rw (back (at-start .fits .number)) at (rw (at-cp-lent .cp-lent .ensures) at (c .before .before .put-reading3 .ensures))))
 
 same-length-4 : tie.Need-same-length-4
 same-length-4 c = search needs

@@ -1,5 +1,7 @@
 -- `tell_gas`: each quantity of a gas by its own function, all over the accepted sheet: the cases of `gasText`.
+use Rattle.text.specs.PutsLaws.{puts-wider}
 use Rattle.signed.specs.Zed.{back}
+use native.Mathlib.Omega.{arith}
 use borrow.Author.Needs.{needs}
 use Rattle.console.proofs.replies.tell_gas.Statement.{statement}
 use Rattle.console.proofs.replies.tell_gas.Tie as tie
@@ -54,7 +56,8 @@ returns c =
     let at-gas-heat-judged = c .before .before .before .before in
     let at-told = at-gas-heat-judged .before in
     let at-start = at-told .before .before .before .before in
-    rw (at-told .enum-told .given .1) (rw (back (at-start .fits .number)) at (rw (at-gas-heat-judged .gas-heat-judged .ensures) at (c .before .before .put-heat .ensures)))
+    rw (at-told .enum-told .given .1)
+    (puts-wider (omega arith) (rw (back (at-start .fits .number)) at (rw (at-gas-heat-judged .gas-heat-judged .ensures) at (c .before .before .put-heat .ensures))))
 
 same-length-2 : tie.Need-same-length-2
 same-length-2 c = search needs
@@ -64,7 +67,8 @@ returns-2 c =
     let at-content-judged = c .before .before .before .before in
     let at-told2 = at-content-judged .before in
     let at-start = at-told2 .before .before .before .before in
-    rw (at-told2 .enum-told2 .given .1) (rw (back (at-start .fits .number)) at (rw (at-content-judged .content-judged .ensures) at (c .before .before .put-heat2 .ensures)))
+    rw (at-told2 .enum-told2 .given .1)
+    (puts-wider (omega arith) (rw (back (at-start .fits .number)) at (rw (at-content-judged .content-judged .ensures) at (c .before .before .put-heat2 .ensures))))
 
 same-length-3 : tie.Need-same-length-3
 same-length-3 c = search needs
@@ -74,7 +78,8 @@ returns-3 c =
     let at-specific-judged = c .before .before .before .before in
     let at-told3 = at-specific-judged .before in
     let at-start = at-told3 .before .before .before .before in
-    rw (at-told3 .enum-told3 .given .1) (rw (back (at-start .fits .number)) at (rw (at-specific-judged .specific-judged .ensures) at (c .before .before .put-specific .ensures)))
+    rw (at-told3 .enum-told3 .given .1)
+    (puts-wider (omega arith) (rw (back (at-start .fits .number)) at (rw (at-specific-judged .specific-judged .ensures) at (c .before .before .put-specific .ensures))))
 
 same-length-4 : tie.Need-same-length-4
 same-length-4 c = search needs
@@ -93,7 +98,8 @@ returns-5 c =
     let at-station-judged = c .before .before .before .before in
     let at-told5 = at-station-judged .before in
     let at-start = at-told5 .before .before .before .before in
-    rw (at-told5 .enum-told5 .given .1) (rw (back (at-start .fits .number)) at (rw (at-station-judged .station-judged .ensures) at (c .before .before .put-station .ensures)))
+    rw (at-told5 .enum-told5 .given .1)
+    (puts-wider (omega arith) (rw (back (at-start .fits .number)) at (rw (at-station-judged .station-judged .ensures) at (c .before .before .put-station .ensures))))
 
 pub tell-gas-spec : {M : Type 1} → statement M
 tell-gas-spec =

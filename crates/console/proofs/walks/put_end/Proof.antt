@@ -1,5 +1,6 @@
 -- `put_end`: a walk that was done ends with its steps; a stopped or refused one has its refusal behind them.
-use Rattle.text.specs.PutLaws.{put-none}
+use Rattle.text.specs.PutsLaws.{puts-none, puts-wider}
+use native.Mathlib.Omega.{arith}
 use borrow.Author.Needs.{needs}
 use Rattle.console.proofs.walks.put_end.Statement.{statement}
 use Rattle.console.proofs.walks.put_end.Tie as tie
@@ -25,7 +26,7 @@ put-refused-requires-2 c κs = search needs
 returns : tie.Need-returns
 returns c =
     let at-start = c .before .before .before in
-    rw (c .enum-told .given .1) (put-none (at-start .args .out .now) (at-start .args .at) (at-start .pre))
+    rw (c .enum-told .given .1) (puts-wider (omega arith) (puts-none (at-start .args .out .now) (at-start .args .at) (at-start .pre)))
 
 same-length : tie.Need-same-length
 same-length c = search needs

@@ -1,5 +1,5 @@
--- `put_on_page`: the step's number, mK, rest and number of looks, then the line feed, each behind the one before (`put-then`).
-use Rattle.text.specs.PutLaws.{put-then}
+-- `put_on_page`: the step's number, mK, rest and number of looks, then the line feed, each behind the one before (`puts-then`).
+use Rattle.text.specs.PutsLaws.{puts-text, puts-decimal, puts-then}
 use Rattle.signed.specs.Zed.{back}
 use borrow.Author.Needs.{needs}
 use Rattle.console.proofs.walks.put_on_page.Statement.{statement}
@@ -34,12 +34,12 @@ returns c =
     let at-put-signed = at-put-signed2 .before .before .before .before in
     let at-put-decimal = at-put-signed .before .before .before .before in
     let at-start = at-put-decimal .before .before .before .before in
-    put-then
-    (put-then
-    (put-then (put-then (at-put-decimal .put-decimal .ensures) (rw (back (at-start .fits .mk)) at (at-put-signed .put-signed .ensures)))
+    puts-then
+    (puts-then
+    (puts-then (puts-then (puts-decimal (at-start .fits .number) (at-put-decimal .put-decimal .ensures)) (rw (back (at-start .fits .mk)) at (at-put-signed .put-signed .ensures)))
     (rw (back (at-start .fits .rest)) at (at-put-signed2 .put-signed2 .ensures)))
     (rw (at-count-looks .count-looks .ensures) at (at-put-number .put-number .ensures)))
-    (c .before .before .put-byte .ensures)
+    (puts-text (c .before .before .put-byte .ensures))
 
 pub put-on-page-spec : {M : Type 1} → statement M
 put-on-page-spec =

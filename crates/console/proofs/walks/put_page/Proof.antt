@@ -1,5 +1,6 @@
--- `put_page`: the head line, the steps from the lists that the walk wrote, and how it ended (`put-then`).
-use Rattle.text.specs.PutLaws.{put-then}
+-- `put_page`: the head line, the steps from the lists that the walk wrote, and how it ended (`puts-then`).
+use Rattle.text.specs.PutsLaws.{puts-text, puts-then, puts-wider}
+use native.Mathlib.Omega.{arith}
 use borrow.Author.Needs.{needs}
 use Rattle.console.proofs.walks.put_page.Statement.{statement}
 use Rattle.console.proofs.walks.put_page.Tie as tie
@@ -27,7 +28,9 @@ returns c =
     let at-put-steps = c .before .before .before .before .before .before in
     let at-steps-done = at-put-steps .before .before in
     let at-put-text = at-steps-done .before .before .before in
-    put-then (put-then (at-put-text .put-text .ensures) (rw (at-steps-done .steps-done .ensures) at (at-put-steps .put-steps .ensures))) (c .before .before .put-end .ensures)
+    let at-start = at-put-text .before .before .before .before .before in
+    puts-wider (omega (arith, at-start .pre .few))
+    (puts-then (puts-then (puts-text (at-put-text .put-text .ensures)) (rw (at-steps-done .steps-done .ensures) at (at-put-steps .put-steps .ensures))) (c .before .before .put-end .ensures))
 
 pub put-page-spec : {M : Type 1} → statement M
 put-page-spec =

@@ -3,7 +3,7 @@
 use borrow.Author.Needs.{needs}
 use Prim.Native.Nat.{_*_, _+_}
 use mathlib.Core.Path.{_≡_}
-use lib.ListN.{getD}
+use lib.ListN.{getD, length-take}
 use lib.IntN.{pos}
 use mir.Syntax.{w64}
 use mir.Val.{SFits}
@@ -86,7 +86,7 @@ part-put-step-end c =
     omega (arith, at-start .pre .0 .temperatures, at-start .pre .0 .rests, at-start .pre .0 .looks, at-loop .loop .inv .within)
 
 put-step-requires : tie.Need-put-step-requires Inv-loop μ-loop
-put-step-requires c κs = tt
+put-step-requires c κs = simp length-take (omega arith)
 
 add-i : tie.Need-add-i Inv-loop μ-loop
 add-i c =
@@ -111,7 +111,7 @@ loop-again c =
     (at-loop .loop .inv) (omega arith) (rw (back f0, back f1, e) at (c .before .before .put-step .ensures))
 
 same-length : tie.Need-same-length Inv-loop μ-loop
-same-length c = c .before .loop .inv .put .same-length
+same-length c = c .before .loop .inv .put .put .same-length
 
 returns : tie.Need-returns Inv-loop μ-loop
 returns c =

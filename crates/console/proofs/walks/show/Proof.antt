@@ -30,7 +30,7 @@ put-walk-requires : tie.Need-put-walk-requires
 put-walk-requires c κs =
     let at-start = c .before .before .before .before .before .before .before .before .before .before .before .before .before in
     holds (walkTold (at-start .args .verdict) (at-start .args .sheet .now) (at-start .args .charge) ((at-start .args .t) .0) (at-start .args .steps .now))
-    (c .before .before .before .before .before .before .before .walk-held .ensures) (search needs) (search needs) (search needs)
+    (c .before .before .before .before .before .before .before .walk-held .ensures) (search needs) (search needs) (search needs) (search needs)
 
 same-length : tie.Need-same-length
 same-length c = search needs

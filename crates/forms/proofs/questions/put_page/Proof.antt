@@ -1,7 +1,8 @@
--- `put_page`: the charge, the temperature and the steps are those of the list's first places, so the console's page is the question's.
+-- `put_page`: the charge, the temperature and the steps are those of the list's first places, so the console's page is the question's, and the buffer has room for it (`puts-whole`).
 use Prim.Native.Nat.{_*_, _-_, min}
 use mathlib.Core.Path.{_≡_}
 use native.Mathlib.Omega.{arith}
+use Rattle.text.specs.PutsLaws.{puts-whole}
 use Rattle.signed.specs.Zed.{back}
 use mir.Val.{SFits}
 use mir.Syntax.{w64}
@@ -46,7 +47,7 @@ returns c =
     let f : SFits w64 (getD (s .args .numbers .now) 3 (pos 0)) = search needs in
     let e : stepNumbers * c .before .before .before .before .before .kept .result - stepNumbers ≡ stepNumbers * min (s .args .lines) keptLines - 4 =
     omega (arith, c .before .before .before .before .before .kept .ensures .1) in
-    rw (c .before .before .before .before .before .before .before .charge-in .ensures, back f, e) at (c .before .before .print-judged .ensures)
+    puts-whole (s .pre .3) (rw (c .before .before .before .before .before .before .before .charge-in .ensures, back f, e) at (c .before .before .print-judged .ensures))
 
 pub put-page-spec : {M : Type 1} → statement M
 put-page-spec =
