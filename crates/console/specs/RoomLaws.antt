@@ -52,14 +52,15 @@ use Rattle.gas.specs.declared.Charge.{Charge}
 use Rattle.sheet.specs.AnswersLaws.{accepted-of-told}
 use Rattle.sheet.specs.declared.SheetAnswer.{SheetAnswer}
 use Rattle.sheet.specs.declared.SheetAnswer.the-variants.{Good, Refused as SheetRefused}
-use Rattle.gas.specs.Burning.{Weights, Limits, Burns, document01, gasOf, beyond, products, oxygenUsed, totalMass, chargeIn}
-use Rattle.gas.specs.BurningLaws.{limits-of, burns-of}
+use Rattle.gas.specs.Burning.{Weights, Limits, Burns, document01, gasOf, products, oxygenUsed, totalMass, chargeIn}
+use Rattle.gas.specs.BurningLaws.{burns-of}
+use Rattle.gas.specs.FuelLaws.{limits-with}
 use Rattle.gas.specs.BoundsLaws.{gas-heat-most, gas-heat-least, content-most, content-least, specific-most, specific-least, mass-most}
 use Rattle.gas.specs.Heat.{gasHeat, contentAbove15, specificContent}
 use Rattle.gas.specs.Answers.{chargeLines, temperatureLines, heatOrder, searchOrder, burnTold}
 use Rattle.gas.specs.AnswersLaws.{Readable, readable-of}
 use Rattle.walk.specs.declared.Step.{Step}
-use Rattle.walk.specs.Step.{State, Out, Asked, held, added, newGas, askLines, askedOf as stepAsked, asked, outOf, sought, judge}
+use Rattle.walk.specs.Step.{State, Out, Asked, held, newGas, askLines, askedOf as stepAsked, asked, outOf, sought, judge}
 use Rattle.walk.specs.Walk.{Trace, End, ended, cut, run, onward, stepsOf, startLines, startState, walked, chargeOf, courseOf}
 use Rattle.walk.specs.RunLaws.{StepDone, step-done}
 use Rattle.typed.specs.Typed.{numberOf}
@@ -484,8 +485,7 @@ module _ {s : List ℕ} (ok : Accepted s) where
       let a = stepAsked document01 s (held document01 s st) (st .gas) p in
       let g = newGas (st .gas) p in
       let v = gasHeat document01 s g in
-      let x = neither (ltZ (p .hydrogen) (pos 0)) (beyond document01 (added (st .gas) p)) (neither (ltZ (p .carbon) (pos 0)) _ (d .atoms) .1) .1 in
-      let b : Burns document01 g = record { limits = limits-of document01 (added (st .gas) p) x; is-lean = d .burns } in
+      let b : Burns document01 g = record { limits = limits-with document01 (st .gas) (p .fuel) (d .fuel); is-lean = d .burns } in
       let l = no-ltZ (a .target) (v coldest) (le-parts (d .reached)) in
       let u = no-ltZ (v hottest) (a .target) (le-parts (d .most)) in
       let m = temperature-most v (a .target) (d .reached) in

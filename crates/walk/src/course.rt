@@ -75,8 +75,7 @@ fn step_at(steps: &[i64], i: usize) -> Step
 {
     let at = crate::STEP_NUMBERS * i;
     Step {
-        carbon: steps[at],
-        hydrogen: steps[at + 1],
+        fuel: gas::fuelling::fuel_in(&[steps[at], steps[at + 1]]),
         value: steps[at + 2],
         heat: steps[at + 3],
     }
