@@ -1,6 +1,6 @@
 -- Fuel added to a gas (document 01, "The walk" and refusal 4): fuel as it is handed in, any signed numbers; the gas with it, where it is wrong, and its mass.
 use mathlib.Core.Bool.{Bool, _||_}
-use mathlib.Core.List.{List}
+use mathlib.Core.List.{List, [], _∷_}
 use Prim.Native.Nat.{ℕ}
 use lib.IntN.{ℤ, pos, _+ℤ_}
 use lib.ListN.{getD}
@@ -11,12 +11,15 @@ use Rattle.gas.specs.declared.Fuel.{Fuel}
 use Rattle.gas.specs.declared.Gas.{Gas}
 use Rattle.gas.specs.Burning.{Weights, gasOf, beyond, fuelMass}
 
--- fuel is handed in as two numbers, c and h: how many, and the fuel of its numbers
+-- fuel is handed in as two numbers, c and h: how many, the fuel of its numbers, and the numbers of a fuel
 abbrev pub fuelNumbers : ℕ
 fuelNumbers = 2
 
 abbrev pub fuelIn : List ℤ → Fuel
 fuelIn numbers = record { carbon = getD numbers 0 (pos 0); hydrogen = getD numbers 1 (pos 0) }
+
+abbrev pub numbersOfFuel : Fuel → List ℤ
+numbersOfFuel f = f .carbon ∷ f .hydrogen ∷ []
 
 -- the charge with the fuel added, and the gas that it is
 abbrev pub added : Gas → Fuel → Charge

@@ -20,8 +20,8 @@ use Rattle.walk.specs.declared.stepping.Stepped.{Stepped}
 use Rattle.walk.specs.declared.stepping.Stepped.the-variants.{Done, Refused}
 use Rattle.walk.specs.Lists.{lists, laid}
 use Rattle.walk.specs.declared.Step.{Step}
-use Rattle.walk.specs.Step.{State, Out, judge}
-use Rattle.walk.specs.Walk.{stepAt, stepsOf, run, onward, Trace, ended, cut, more, courseOf, paperWalk, Walks, temperaturesOf, restsOf, looksOf}
+use Rattle.walk.specs.Step.{stepIn, State, Out, judge}
+use Rattle.walk.specs.Walk.{stepsOf, run, onward, Trace, ended, cut, more, courseOf, paperWalk, Walks, temperaturesOf, restsOf, looksOf}
 use Rattle.walk.specs.inner.Work.{stateOf, Stands, stepNo, Shown, StandsAfter, ready, StepGives}
 use Rattle.walk.specs.Demand3Laws.{eleven-places}
 use Rattle.walk.specs.RunLaws.{step-done}
@@ -67,7 +67,7 @@ steps-from n i l h =
     let e : n - i ≡ suc (n - (i + 1)) = omega arith in
     let d : stepNumbers * (i + 1) ≡ stepNumbers * i + stepNumbers = omega arith in
     ap (λ (k : ℕ). stepsOf k (drop (stepNumbers * i) l)) e
-    ∙ ap (λ (x : List ℤ). stepAt (drop (stepNumbers * i) l) ∷ stepsOf (n - (i + 1)) x) (drop-drop stepNumbers (stepNumbers * i) l ∙ ap (λ (k : ℕ). drop k l) (sym d))
+    ∙ ap (λ (x : List ℤ). stepIn (drop (stepNumbers * i) l) ∷ stepsOf (n - (i + 1)) x) (drop-drop stepNumbers (stepNumbers * i) l ∙ ap (λ (k : ℕ). drop k l) (sym d))
 
 ahead-snoc : (os : List Out) (o : Out) (t : Trace) → ahead os (more o t) ≡ ahead (os ++ (o ∷ [])) t
 ahead-snoc os o t = ap (λ (x : List Out). record { outs = x; end = t .end }) (sym (append-assoc os (o ∷ []) (t .outs)))

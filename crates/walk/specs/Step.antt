@@ -4,15 +4,23 @@ use mathlib.Core.Bool.{Bool, not, _||_}
 use mathlib.Core.List.{List, [], _∷_, _++_}
 use Prim.Native.Nat.{ℕ, _*_}
 use lib.IntN.{ℤ, pos, negℤ, _+ℤ_, _*ℤ_}
+use lib.ListN.{getD}
 use Rattle.signed.specs.Zed.{outside}
 use Rattle.refusal.specs.Refusals.{Told, Line, _when_, first, andThen}
 use Rattle.air.specs.Limits.{fifteenDegrees}
 use Rattle.air.specs.Inverse.{temperature, rest, looks, unreached}
 use Rattle.gas.specs.declared.Gas.{Gas}
 use Rattle.gas.specs.Burning.{Weights, lean}
-use Rattle.gas.specs.Fuel.{withFuel, wrongFuel, massAdded}
+use Rattle.gas.specs.Fuel.{fuelIn, numbersOfFuel, withFuel, wrongFuel, massAdded}
 use Rattle.gas.specs.Heat.{gasHeat, contentAbove15}
 use Rattle.walk.specs.declared.Step.{Step}
+
+-- a step is handed in as four numbers, carbon added, hydrogen added, calorific value, q: the step that begins a list of numbers, and the numbers of a step
+abbrev pub stepIn : List ℤ → Step
+stepIn numbers = record { fuel = fuelIn (getD numbers 0 (pos 0) ∷ getD numbers 1 (pos 0) ∷ []); value = getD numbers 2 (pos 0); heat = getD numbers 3 (pos 0) }
+
+abbrev pub numbersOfStep : Step → List ℤ
+numbersOfStep p = numbersOfFuel (p .fuel) ++ p .value ∷ p .heat ∷ []
 
 -- where a walk stands: its gas, and the temperature in mK
 pub record State : Type 0 where

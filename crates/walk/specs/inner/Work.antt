@@ -24,8 +24,7 @@ use Rattle.walk.specs.declared.stepping.Stepped.{Stepped}
 use Rattle.walk.specs.declared.stepping.Stepped.the-variants.{Done, Refused}
 use Rattle.walk.specs.Lists.{laid}
 use Rattle.walk.specs.declared.Step.{Step}
-use Rattle.walk.specs.Step.{State, Asked, Out}
-use Rattle.walk.specs.Walk.{stepAt}
+use Rattle.walk.specs.Step.{stepIn, State, Asked, Out}
 
 -- where the walk stands
 abbrev pub stateOf : Standing → State
@@ -45,7 +44,7 @@ pub record Begun (s : List ℕ) (g : Gas) (t : Millikelvin) (st : Standing) : Ty
 
 -- the step at an index of a list of numbers
 abbrev pub stepNo : List ℤ → ℕ → Step
-stepNo l i = stepAt (drop (stepNumbers * i) l)
+stepNo l i = stepIn (drop (stepNumbers * i) l)
 
 -- ---- what a step asks
 -- two heats and what a step brings, so small that their sum stays inside 64 bits
