@@ -1,3 +1,4 @@
 -- What several proofs of this crate share.
+pub mod Adding
 pub mod Lines
 pub mod HeatSearch

@@ -7,7 +7,7 @@ use lib.Dec.{ltb}
 use lib.IntN.{ℤ, pos}
 use lib.ListN.{length}
 use Rattle.signed.specs.Zed.{up, outside}
-use Rattle.refusal.specs.Refusals.{Told, gives, refused, Line, _when_, first}
+use Rattle.refusal.specs.Refusals.{Told, gives, refused, refuses, Line, _when_, first}
 use Rattle.air.specs.Limits.{lookPlaces, coldest, hottest}
 use Rattle.air.specs.Inverse.{looks, unreached, Found, found, written}
 use Rattle.sheet.specs.Answers.{sheetLines}
@@ -24,6 +24,8 @@ use Rattle.gas.specs.declared.TemperatureAnswer.the-variants.{At, Refuse
 use Rattle.gas.specs.declared.inner.Admitted.{Admitted}
 use Rattle.gas.specs.declared.inner.Admitted.the-variants.{Burning, Refused}
 use Rattle.gas.specs.declared.Gas.{Gas}
+use Rattle.gas.specs.declared.fuelling.Fuelled.{Fuelled}
+use Rattle.gas.specs.declared.fuelling.Fuelled.the-variants.{To, Beyond}
 use Rattle.gas.specs.Burning.{Weights, gasOf, beyond, lean, products}
 use Rattle.gas.specs.Heat.{gasHeat, contentAbove15, specificContent}
 
@@ -47,6 +49,10 @@ paperTemperature (TemperatureRefused r) = refused r
 abbrev pub paperGas : Admitted → Told Gas
 paperGas (Burning g) = gives g
 paperGas (Refused r) = refused r
+
+abbrev pub paperFuelled : Fuelled → Told Gas
+paperFuelled (To g) = gives g
+paperFuelled Beyond = refuses 4
 
 -- ---- the orders
 -- refusals 4 and 5: A, c or h outside its limit; not lean

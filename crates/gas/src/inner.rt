@@ -109,7 +109,7 @@ pub fn admit_at(charge: Charge, t: Millikelvin) -> Admitted
 }
 
 // The mass of the fuel.
-pub fn fuel_mass(gas: Gas) -> u64
+pub(crate) fn fuel_mass(gas: Gas) -> u64
     requires { ⌜ Limits document01 gas ⌝ }
     ensures { λ r. ⌜ r ≡ fuelMass document01 gas ⌝ }
 {

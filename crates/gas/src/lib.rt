@@ -2,12 +2,12 @@
 // Every call takes every input and judges a sheet list that it is lent first, once. What an answer tells, in the paper's numbers (specs/Answers.antt), is the
 // first refusal of its order whose condition holds, else the paper's formula in whole numbers (specs/Burning.antt, specs/Heat.antt).
 mod burning;
+pub mod fuelling;
 mod heats;
 pub mod inner;
 mod search;
 
 use air::Millikelvin;
-pub use burning::MOST_ATOMS;
 use inner::Admitted;
 use refusal::Refusal;
 use sheet::SheetAnswer;
@@ -21,6 +21,12 @@ pub struct Heat(pub i64);
 // A charge: parts of air of 100 g, moles of carbon, moles of hydrogen atoms.
 pub struct Charge {
     pub air: i64,
+    pub carbon: i64,
+    pub hydrogen: i64,
+}
+
+// Fuel as it is handed in, any numbers: moles of carbon, moles of hydrogen atoms.
+pub struct Fuel {
     pub carbon: i64,
     pub hydrogen: i64,
 }

@@ -2,10 +2,12 @@
 -- nothing.
 use mathlib.Core.Path.{_≡_, refl, sym, ap, _∙_}
 use mathlib.Core.List.{List, [], _∷_, _++_}
+use mathlib.Core.Bool.{Bool, true, false}
+use Prim.Native.Nat.{ℕ}
 use Rattle.refusal.specs.declared.Refusal.{Refusal}
-use Rattle.refusal.specs.Refusals.{Told, gives, refused, Line, condition, first, andThen, Clear, none, clear}
+use Rattle.refusal.specs.Refusals.{Told, gives, refused, Line, _when_, condition, first, andThen, Clear, none, clear}
 use Rattle.refusal.specs.BoolLaws.{by-bool}
-use Rattle.refusal.specs.RefusalsLaws.{values-given, gives-clear}
+use Rattle.refusal.specs.RefusalsLaws.{no-refusal, values-given, gives-clear}
 
 -- an order in two parts, the second over the values of the first
 pub one-order : {A B : Type 0} (ls : List Line) (a : A) (f : A → Told B) (ms : List Line) (b : B) → f a ≡ first ms b → first (ls ++ ms) b ≡ andThen (first ls a) f
@@ -44,3 +46,14 @@ clear-right (l ∷ ls) ms (clear h c) = clear-right ls ms c
 -- the values of a later answer, worked out from those of an order that gives its own
 pub told-through : {A B : Type 0} (ls : List Line) (a : A) (f : A → B) {x : A} {y : B} → gives x ≡ first ls a → y ≡ f x → gives y ≡ first ls (f a)
 told-through ls a f e q = ap gives (q ∙ ap f (sym (given ls a e))) ∙ sym (values-given (f a) (clear-order ls a e))
+
+-- ---- an order of one line
+module _ {A : Type 0} (n : ℕ) (b : Bool) (a : A) where
+  pub line-held : {r : Refusal} → refused r ≡ first (n when b ∷ []) a → b ≡ true
+  line-held {r} e = by-bool b (λ h. h) (λ h. absurd (no-refusal a r (sym (e ∙ rw h refl))))
+
+  pub line-clear : {x : A} → gives x ≡ first (n when b ∷ []) a → (b ≡ false) × (a ≡ x)
+  line-clear e = (alone (clear-order (n when b ∷ []) a e), given (n when b ∷ []) a e)
+    where
+      alone : Clear (n when b ∷ []) → b ≡ false
+      alone (clear h c) = h

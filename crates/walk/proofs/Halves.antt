@@ -24,7 +24,9 @@ use Rattle.sheet.specs.Sheet.{Accepted}
 use Rattle.gas.specs.declared.Gas.{Gas}
 use Rattle.gas.specs.declared.Heat.{Heat}
 use Rattle.gas.specs.declared.TemperatureAnswer.the-variants.{At, Refused as NotFound}
-use Rattle.gas.specs.Burning.{document01, Limits, Burns, lean}
+use Rattle.gas.specs.Burning.{document01, Burns, lean}
+use Rattle.gas.specs.Fuel.{wrongFuel}
+use Rattle.gas.specs.FuelLaws.{mass-most}
 use Rattle.gas.specs.Heat.{gasHeat}
 use Rattle.gas.specs.Answers.{Inverted}
 use Rattle.refusal.specs.OrdersLaws.{stopped-first}
@@ -34,10 +36,10 @@ use Rattle.walk.specs.declared.stepping.Standing.{Standing}
 use Rattle.walk.specs.declared.stepping.Asking.{Asking}
 use Rattle.walk.specs.declared.stepping.Ask.the-variants.{For, Refused as AskRefused}
 use Rattle.walk.specs.declared.stepping.Stepped.the-variants.{Done, Refused}
-use Rattle.walk.specs.Step.{Asked, Out, held, newGas, burnHeat, stepHeat, wrongAtoms, wrongHeat, askedOf, asked, outOf, sought, judge}
+use Rattle.walk.specs.Step.{Asked, Out, held, newGas, burnHeat, stepHeat, wrongHeat, askedOf, asked, outOf, sought, judge}
 use Rattle.walk.specs.inner.Work.{stateOf, Stands, InReach, AsksOf, burning, none, Asks, standingOf, ready, StepGives}
 use Rattle.walk.specs.inner.Work as work
-use Rattle.walk.proofs.Asking.{brought-most, fuel-small}
+use Rattle.walk.proofs.Asking.{brought-most}
 
 -- a temperature in range, as a natural
 pub mk-range : (z : ℤ) → inZ (pos coldest) (pos hottest) z ≡ true → (coldest ≤ up z) × (up z ≤ hottest) × (dn z ≡ 0)
@@ -48,19 +50,19 @@ module _ (s : List ℕ) (st : Standing) (p : Step) where
   abbrev told : Told Asked
   told = asked document01 s (held document01 s (stateOf st)) (st .gas) p
 
-  pub asks-4 : wrongAtoms document01 (st .gas) p ≡ true → Asks told s (AskRefused 4)
+  pub asks-4 : wrongFuel document01 (st .gas) (p .fuel) ≡ true → Asks told s (AskRefused 4)
   unfolding asked
   asks-4 a = record { asked-is = rw a refl; ready = none }
 
-  pub asks-7 : wrongAtoms document01 (st .gas) p ≡ false → wrongHeat p ≡ true → Asks told s (AskRefused 7)
+  pub asks-7 : wrongFuel document01 (st .gas) (p .fuel) ≡ false → wrongHeat p ≡ true → Asks told s (AskRefused 7)
   unfolding asked
   asks-7 a h = record { asked-is = rw (a, h) refl; ready = none }
 
-  pub asks-5 : wrongAtoms document01 (st .gas) p ≡ false → wrongHeat p ≡ false → lean document01 (newGas (st .gas) p) ≡ false → Asks told s (AskRefused 5)
+  pub asks-5 : wrongFuel document01 (st .gas) (p .fuel) ≡ false → wrongHeat p ≡ false → lean document01 (newGas (st .gas) p) ≡ false → Asks told s (AskRefused 5)
   unfolding asked
   asks-5 a h l = record { asked-is = rw (a, h, l) refl; ready = none }
 
-  module _ (k : Stands s st) (a : wrongAtoms document01 (st .gas) p ≡ false) (h : wrongHeat p ≡ false) (l : lean document01 (newGas (st .gas) p) ≡ true)
+  module _ (k : Stands s st) (a : wrongFuel document01 (st .gas) (p .fuel) ≡ false) (h : wrongHeat p ≡ false) (l : lean document01 (newGas (st .gas) p) ≡ true)
       (g : Gas) (e : newGas (st .gas) p ≡ g) (b : Burns document01 g) where
     asked-clear : told ≡ gives (askedOf document01 s (held document01 s (stateOf st)) (st .gas) p)
     unfolding asked
@@ -78,10 +80,10 @@ module _ (s : List ℕ) (st : Standing) (p : Step) where
         }
 
     -- its target stays inside 64 bits
-    pub in-reach : Accepted s → Limits document01 (st .gas) → (m f : ℤ) → m ≡ stepHeat document01 p → f ≡ gasHeat document01 s g fifteenDegrees → InReach (st .heat .0) (st .fifteen .0) m f
-    in-reach ok lim m f x y =
+    pub in-reach : Accepted s → (m f : ℤ) → m ≡ stepHeat document01 p → f ≡ gasHeat document01 s g fifteenDegrees → InReach (st .heat .0) (st .fifteen .0) m f
+    in-reach ok m f x y =
         let c = mk-range (st .t .0) (k .covered) in
-        let r : (up m ≤ 4254750000000000000) × (dn m ≤ 1000000000000000000) = subst⁻¹ (λ (z : ℤ). (up z ≤ 4254750000000000000) × (dn z ≤ 1000000000000000000)) x (brought-here lim) in
+        let r : (up m ≤ 4254750000000000000) × (dn m ≤ 1000000000000000000) = subst⁻¹ (λ (z : ℤ). (up z ≤ 4254750000000000000) × (dn z ≤ 1000000000000000000)) x brought-here in
         record {
           heat-most = rw (k .heat-is) (gas-heat-most (k .burns) ok (up (st .t .0)) (c .0) (c .1));
           heat-least = rw (k .heat-is) (omega (arith, gas-heat-least (k .burns) ok (up (st .t .0)) (c .0) (c .1)));
@@ -93,8 +95,8 @@ module _ (s : List ℕ) (st : Standing) (p : Step) where
           new-least = rw y (omega (arith, gas-heat-least b ok fifteenDegrees (omega arith) (omega arith)));
         }
       where
-        brought-here : Limits document01 (st .gas) → (up (stepHeat document01 p) ≤ 4254750000000000000) × (dn (stepHeat document01 p) ≤ 1000000000000000000)
-        brought-here lim = unfold burnHeat in brought-most p h _ (fuel-small (st .gas) p lim a)
+        brought-here : (up (stepHeat document01 p) ≤ 4254750000000000000) × (dn (stepHeat document01 p) ≤ 1000000000000000000)
+        brought-here = unfold burnHeat in brought-most p h _ (mass-most (st .gas) (p .fuel) a)
 
 -- ---- the judgement
 module _ (s : List ℕ) (st : Standing) (p : Step) where

@@ -2,11 +2,11 @@
 use mathlib.Core.Path.{_≡_, refl, sym, ap, _∙_}
 use mathlib.Core.List.{List, [], _∷_, _++_, map, append-assoc, append-nil}
 use Prim.Native.Nat.{ℕ, suc, _+_, _-_, _*_, _≤_, _<_}
-use native.Mathlib.Nat.{sub-zero, add-zero}
+use native.Mathlib.Nat.{sub-zero}
 use native.Mathlib.Omega.{arith}
 use lib.IntN.{ℤ, pos}
 use lib.ListN.{length, take, drop, set, length-append, length-set, take-append-drop, length-map}
-use lib.Seq.{getD-drop, drop-drop}
+use lib.Seq.{drop-drop}
 use Rattle.signed.specs.Zed.{plain}
 use Rattle.refusal.specs.Refusals.{Told, gives, refused, numberOf}
 use Rattle.air.specs.Limits.{lookPlaces}
@@ -20,8 +20,8 @@ use Rattle.walk.specs.declared.stepping.Stepped.{Stepped}
 use Rattle.walk.specs.declared.stepping.Stepped.the-variants.{Done, Refused}
 use Rattle.walk.specs.Lists.{lists, laid}
 use Rattle.walk.specs.declared.Step.{Step}
-use Rattle.walk.specs.Step.{State, Out, judge}
-use Rattle.walk.specs.Walk.{stepAt, stepsOf, run, onward, Trace, ended, cut, more, courseOf, paperWalk, Walks, temperaturesOf, restsOf, looksOf}
+use Rattle.walk.specs.Step.{stepIn, State, Out, judge}
+use Rattle.walk.specs.Walk.{stepsOf, run, onward, Trace, ended, cut, more, courseOf, paperWalk, Walks, temperaturesOf, restsOf, looksOf}
 use Rattle.walk.specs.inner.Work.{stateOf, Stands, stepNo, Shown, StandsAfter, ready, StepGives}
 use Rattle.walk.specs.Demand3Laws.{eleven-places}
 use Rattle.walk.specs.RunLaws.{step-done}
@@ -60,10 +60,6 @@ was-refused (refused r) n l′ g = (λ st k. let e = g .told in let q : numberOf
 abbrev pub ahead : List Out → Trace → Trace
 ahead os t = record { outs = os ++ t .outs; end = t .end }
 
--- the step at index i, as the code reads it
-step-at : (i : ℕ) (l : List ℤ) → stepAt (drop (stepNumbers * i) l) ≡ stepNo l i
-step-at i l = simp (getD-drop, add-zero)
-
 -- the steps from index i on: the one at i, and those from i + 1 on
 steps-from : (n i : ℕ) (l : List ℤ) → i < n → stepsOf (n - i) (drop (stepNumbers * i) l) ≡ stepNo l i ∷ stepsOf (n - (i + 1)) (drop (stepNumbers * (i + 1)) l)
 unfolding stepsOf
@@ -71,8 +67,7 @@ steps-from n i l h =
     let e : n - i ≡ suc (n - (i + 1)) = omega arith in
     let d : stepNumbers * (i + 1) ≡ stepNumbers * i + stepNumbers = omega arith in
     ap (λ (k : ℕ). stepsOf k (drop (stepNumbers * i) l)) e
-    ∙ ap (λ (x : List ℤ). stepAt (drop (stepNumbers * i) l) ∷ stepsOf (n - (i + 1)) x) (drop-drop stepNumbers (stepNumbers * i) l ∙ ap (λ (k : ℕ). drop k l) (sym d))
-    ∙ ap (λ (x : Step). x ∷ stepsOf (n - (i + 1)) (drop (stepNumbers * (i + 1)) l)) (step-at i l)
+    ∙ ap (λ (x : List ℤ). stepIn (drop (stepNumbers * i) l) ∷ stepsOf (n - (i + 1)) x) (drop-drop stepNumbers (stepNumbers * i) l ∙ ap (λ (k : ℕ). drop k l) (sym d))
 
 ahead-snoc : (os : List Out) (o : Out) (t : Trace) → ahead os (more o t) ≡ ahead (os ++ (o ∷ [])) t
 ahead-snoc os o t = ap (λ (x : List Out). record { outs = x; end = t .end }) (sym (append-assoc os (o ∷ []) (t .outs)))

@@ -7,10 +7,8 @@ use native.Mathlib.Omega.{arith}
 use lib.IntN.{ℤ, pos, _+ℤ_}
 use lib.ListN.{length, getD, take, drop, length-map, List·getD-append}
 use lib.Seq.{getD-drop, take-at, drop-at, drop-drop, length-take-le}
-use lib.Signed.{ltZ}
 use Rattle.signed.specs.Zed.{up, is-pos, is-self, is-add, is-minus, lt-by, zed}
 use Rattle.refusal.specs.Refusals.{Told, gives, refused, Line, Clear, clear, none as nothing}
-use Rattle.refusal.specs.BoolLaws.{neither}
 use Rattle.refusal.specs.RefusalsLaws.{gives-clear, values-given}
 use Rattle.air.specs.Limits.{lookPlaces, coldest}
 use Rattle.air.specs.Halving.{eleven}
@@ -22,15 +20,16 @@ use Rattle.gas.specs.declared.Gas.{Gas}
 use Rattle.sheet.specs.Sheet.{Accepted}
 use Rattle.sheet.specs.Answers.{sheetLines}
 use Rattle.sheet.specs.AnswersLaws.{accepted-of-told}
-use Rattle.gas.specs.Burning.{Weights, Sound, document01, beyond}
-use Rattle.gas.specs.BurningLaws.{limits-of, document01-sound}
+use Rattle.gas.specs.Burning.{Weights, Sound, document01}
+use Rattle.gas.specs.BurningLaws.{document01-sound}
+use Rattle.gas.specs.FuelLaws.{limits-with}
 use Rattle.gas.specs.HeatLaws.{gas-rises}
 use Rattle.gas.specs.Heat.{gasHeat}
 use Rattle.walk.specs.Limits.{stepNumbers}
 use Rattle.walk.specs.declared.WalkAnswer.{WalkAnswer}
 use Rattle.walk.specs.Lists.{Lists, laid}
 use Rattle.walk.specs.declared.Step.{Step}
-use Rattle.walk.specs.Step.{State, Asked, Out, held, added, newGas, askedOf, outOf}
+use Rattle.walk.specs.Step.{State, Asked, Out, held, newGas, askedOf, outOf}
 use Rattle.walk.specs.Walk.{Trace, End, ended, cut, run, noStep, stepsOf, startLines, startState, walked, walkedInto, courseOf, course, chargeOf}
 use Rattle.walk.specs.Walk.{paperWalk, temperaturesOf, restsOf, looksOf, filled, Walks, WalkPromise}
 use Rattle.walk.specs.Ledger.{total, ledger, dearest, sumOf, lastOf}
@@ -223,8 +222,7 @@ module _ (w : Weights) (s : List ℕ) (climb : AllClimb w s) (lines : List Line)
 -- ---- and of every outcome of a walk: one that began has an accepted sheet, on which the heat of every gas that burns rises
 pub all-climb : (w : Weights) → Sound w → {s : List ℕ} → Accepted s → AllClimb w s
 all-climb w so ok st p o d =
-    let b = neither (ltZ (p .hydrogen) (pos 0)) (beyond w (added (st .gas) p)) (neither (ltZ (p .carbon) (pos 0)) _ (d .atoms) .1) .1 in
-    gas-rises w so ok (newGas (st .gas) p) (record { limits = limits-of w (added (st .gas) p) b; is-lean = d .burns }) coldest (omega arith) (omega arith)
+    gas-rises w so ok (newGas (st .gas) p) (record { limits = limits-with w (st .gas) (p .fuel) (d .fuel); is-lean = d .burns }) coldest (omega arith) (omega arith)
 
 module _ (w : Weights) (so : Sound w) (s : List ℕ) (start : Charge) (from : ℤ) (numbers : List ℤ) (before : Lists) where
   began-accepted : (T : Trace) → walkedInto before (sheetLines s) w s start from numbers ≡ gives T → Accepted s

@@ -23,6 +23,7 @@ use Rattle.sheet.specs.AnswersLaws.{past-sheet}
 use Rattle.gas.specs.declared.Charge.{Charge}
 use Rattle.gas.specs.declared.Gas.{Gas}
 use Rattle.gas.specs.Burning.{document01, beyond, lean, oxygenUsed}
+use Rattle.gas.specs.Fuel.{noFuel}
 use Rattle.gas.specs.Heat.{gasHeat}
 use Rattle.gas.specs.Examples.{charge, at, air-alone, part-found}
 use Rattle.air.specs.declared.Millikelvin.{Millikelvin}
@@ -44,7 +45,7 @@ one = record { air = 1; carbon = 0; hydrogen = 0 }
 
 -- a step of plain heat, with no fuel
 abbrev pub plainHeat : ℕ → Step
-plainHeat q = record { carbon = pos 0; hydrogen = pos 0; value = pos 0; heat = pos q }
+plainHeat q = record { fuel = noFuel; value = pos 0; heat = pos q }
 
 -- what such a step gives where it ends o above the heat at 200 K
 abbrev pub outAt : List ℕ → ℕ → Out

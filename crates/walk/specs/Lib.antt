@@ -1,6 +1,7 @@
 pub mod Limits
 pub mod Lists
 pub mod Step
+pub mod StepLaws
 pub mod Walk
 pub mod inner
 pub mod Ledger

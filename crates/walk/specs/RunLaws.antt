@@ -14,15 +14,16 @@ use Rattle.air.specs.Limits.{coldest, hottest}
 use Rattle.air.specs.Inverse.{unreached}
 use Rattle.gas.specs.declared.Gas.{Gas}
 use Rattle.gas.specs.Burning.{Weights, lean}
+use Rattle.gas.specs.Fuel.{wrongFuel}
 use Rattle.gas.specs.Heat.{gasHeat}
 use Rattle.walk.specs.declared.Step.{Step}
-use Rattle.walk.specs.Step.{State, Out, held, newGas, wrongAtoms, wrongHeat, askLines, askedOf, asked, outOf, sought, judge}
+use Rattle.walk.specs.Step.{State, Out, held, newGas, wrongHeat, askLines, askedOf, asked, outOf, sought, judge}
 use Rattle.walk.specs.Walk.{Trace, ended, cut, more, onward, run}
 
 -- ---- a step that is done
 -- it passed every test, the target is reached by the new gas, and its outputs are those of what it asked
 pub record StepDone (w : Weights) (s : List ℕ) (st : State) (p : Step) (o : Out) : Type 0 where
-  pub atoms : wrongAtoms w (st .gas) p ≡ false
+  pub fuel : wrongFuel w (st .gas) (p .fuel) ≡ false
   pub heat : wrongHeat p ≡ false
   pub burns : lean w (newGas (st .gas) p) ≡ true
   pub reached : gasHeat w s (newGas (st .gas) p) coldest ≤ℤ askedOf w s (held w s st) (st .gas) p .target
@@ -38,7 +39,7 @@ through : {A B : Type 0} (t : Told A) (f : A → Told B) (b : B) → andThen t f
 through (gives a) f b e = record { between = a; before = refl; behind = e }
 through (refused r) f b e = absurd (let z : _≡_ {A = ℕ} 0 1 = cc in omega arith)
 
-ask-clear : (w : Weights) (g : Gas) (p : Step) → Clear (askLines w g p) → (wrongAtoms w g p ≡ false) × (wrongHeat p ≡ false) × (lean w (newGas g p) ≡ true)
+ask-clear : (w : Weights) (g : Gas) (p : Step) → Clear (askLines w g p) → (wrongFuel w g (p .fuel) ≡ false) × (wrongHeat p ≡ false) × (lean w (newGas g p) ≡ true)
 ask-clear w g p (clear a (clear b (clear c n))) = (a, b, not-false (lean w (newGas g p)) c)
 
 end-clear : (v : ℕ → ℤ) (t : ℤ) → Clear (unreached v t) → (v coldest ≤ℤ t) × (t ≤ℤ v hottest)
@@ -53,7 +54,7 @@ step-done w s st p o e =
     let k = gives-clear (unreached (gasHeat w s (a .gas)) (a .target)) {a = outOf w s a} {b = o} (ap (sought w s) (q .1) ∙ h .behind) in
     let x = ask-clear w (st .gas) p (q .0) in
     let y = end-clear (gasHeat w s (a .gas)) (a .target) (k .0) in
-    record { atoms = x .0; heat = x .1; burns = x .2; reached = y .0; most = y .1; out = sym (k .1) }
+    record { fuel = x .0; heat = x .1; burns = x .2; reached = y .0; most = y .1; out = sym (k .1) }
 
 -- ---- a law of runs has three cases: no step is left, the first is refused, the first is done and the law holds from there
 module _ (w : Weights) (s : List ℕ) (P : State → List Step → Trace → Type 0)

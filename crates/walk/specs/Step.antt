@@ -1,19 +1,26 @@
--- One step of a walk (document 01, "The walk"): what it asks, and how it is judged. A step is four signed numbers: carbon added, hydrogen added, calorific value in
--- hundredths of C.H.U./lb, plain heat q. Heats are gas heats, temperatures mK.
+-- One step of a walk (document 01, "The walk"): what it asks, and how it is judged. A step is the fuel that it adds, its calorific value in hundredths of
+-- C.H.U./lb, and its plain heat q. Heats are gas heats, temperatures mK.
 use mathlib.Core.Bool.{Bool, not, _||_}
 use mathlib.Core.List.{List, [], _∷_, _++_}
 use Prim.Native.Nat.{ℕ, _*_}
 use lib.IntN.{ℤ, pos, negℤ, _+ℤ_, _*ℤ_}
-use lib.Signed.{ltZ}
-use Rattle.signed.specs.Zed.{up, outside}
+use lib.ListN.{getD}
+use Rattle.signed.specs.Zed.{outside}
 use Rattle.refusal.specs.Refusals.{Told, Line, _when_, first, andThen}
 use Rattle.air.specs.Limits.{fifteenDegrees}
 use Rattle.air.specs.Inverse.{temperature, rest, looks, unreached}
-use Rattle.gas.specs.declared.Charge.{Charge}
 use Rattle.gas.specs.declared.Gas.{Gas}
-use Rattle.gas.specs.Burning.{Weights, gasOf, beyond, lean, fuelMass}
+use Rattle.gas.specs.Burning.{Weights, lean}
+use Rattle.gas.specs.Fuel.{fuelIn, numbersOfFuel, withFuel, wrongFuel, massAdded}
 use Rattle.gas.specs.Heat.{gasHeat, contentAbove15}
 use Rattle.walk.specs.declared.Step.{Step}
+
+-- a step is handed in as four numbers, carbon added, hydrogen added, calorific value, q: the step that begins a list of numbers, and the numbers of a step
+abbrev pub stepIn : List ℤ → Step
+stepIn numbers = record { fuel = fuelIn (getD numbers 0 (pos 0) ∷ getD numbers 1 (pos 0) ∷ []); value = getD numbers 2 (pos 0); heat = getD numbers 3 (pos 0) }
+
+abbrev pub numbersOfStep : Step → List ℤ
+numbersOfStep p = numbersOfFuel (p .fuel) ++ p .value ∷ p .heat ∷ []
 
 -- where a walk stands: its gas, and the temperature in mK
 pub record State : Type 0 where
@@ -24,27 +31,17 @@ pub record State : Type 0 where
 abbrev pub held : Weights → List ℕ → State → ℤ
 held w s st = contentAbove15 w s (st .gas) (st .mk)
 
--- the charge with the step's atoms added, and the gas that it is
-abbrev pub added : Gas → Step → Charge
-added g p = record { air = pos (g .air); carbon = pos (g .carbon) +ℤ p .carbon; hydrogen = pos (g .hydrogen) +ℤ p .hydrogen }
-
+-- the gas with the step's fuel added
 abbrev pub newGas : Gas → Step → Gas
-newGas g p = gasOf (added g p)
+newGas g p = withFuel g (p .fuel)
 
 -- the mass of the added fuel × 1000 × the calorific value
-abbrev pub fuelAdded : Step → Gas
-fuelAdded p = record { air = 0; carbon = up (p .carbon); hydrogen = up (p .hydrogen) }
-
 unfoldable pub burnHeat : Weights → Step → ℤ
-burnHeat w p = pos (fuelMass w (fuelAdded p) * 1000) *ℤ p .value
+burnHeat w p = pos (massAdded w (p .fuel) * 1000) *ℤ p .value
 
 -- step heat: that + q
 abbrev pub stepHeat : Weights → Step → ℤ
 stepHeat w p = burnHeat w p +ℤ p .heat
-
--- A, c or h outside its limit, or atoms added negative
-abbrev pub wrongAtoms : Weights → Gas → Step → Bool
-wrongAtoms w g p = ltZ (p .carbon) (pos 0) || (ltZ (p .hydrogen) (pos 0) || beyond w (added g p))
 
 -- calorific value (0 to 5,000,000) or q (−10^18 to 10^18) outside range
 abbrev pub wrongHeat : Step → Bool
@@ -52,7 +49,7 @@ wrongHeat p = outside (pos 0) (pos 5000000) (p .value) || outside (negℤ (pos 1
 
 -- refusals 4, 7, 5
 abbrev pub askLines : Weights → Gas → Step → List Line
-askLines w g p = 4 when wrongAtoms w g p ∷ 7 when wrongHeat p ∷ 5 when not (lean w (newGas g p)) ∷ []
+askLines w g p = 4 when wrongFuel w g (p .fuel) ∷ 7 when wrongHeat p ∷ 5 when not (lean w (newGas g p)) ∷ []
 
 -- what a step asks: a temperature of the new gas, from a gas heat
 pub record Asked : Type 0 where

@@ -14,22 +14,19 @@ use Rattle.air.specs.Halving.{eleven}
 use Rattle.gas.specs.declared.Charge.{Charge}
 use Rattle.gas.specs.declared.Gas.{Gas}
 use Rattle.gas.specs.Burning.{Weights, document01, gasOf}
+use Rattle.gas.specs.Fuel.{noFuel}
 use Rattle.gas.specs.Answers.{chargeLines, temperatureLines}
 use Rattle.walk.specs.Limits.{stepNumbers, mostNumbers}
 use Rattle.walk.specs.declared.WalkAnswer.{WalkAnswer}
 use Rattle.walk.specs.declared.WalkAnswer.the-variants.{Done, Stopped, Refused}
 use Rattle.walk.specs.Lists.{Lists, lists, laid}
 use Rattle.walk.specs.declared.Step.{Step}
-use Rattle.walk.specs.Step.{State, Out, judge, stepOrder}
-
--- the step that begins a list of numbers
-abbrev pub stepAt : List ℤ → Step
-stepAt l = record { carbon = getD l 0 (pos 0); hydrogen = getD l 1 (pos 0); value = getD l 2 (pos 0); heat = getD l 3 (pos 0) }
+use Rattle.walk.specs.Step.{stepIn, State, Out, judge, stepOrder}
 
 -- the first n steps of a list of numbers
 unfoldable pub stepsOf : ℕ → List ℤ → List Step
 stepsOf zero l = []
-stepsOf (suc n) l = stepAt l ∷ stepsOf n (drop stepNumbers l)
+stepsOf (suc n) l = stepIn l ∷ stepsOf n (drop stepNumbers l)
 
 -- ---- the run over the steps
 -- how it ends: after the last step, or before a step that is refused with this number
@@ -56,7 +53,7 @@ run w s st (p ∷ ps) = onward st (judge w s st p) (λ q. run w s q ps)
 
 -- ---- where it stops
 abbrev pub noStep : Step
-noStep = record { carbon = pos 0; hydrogen = pos 0; value = pos 0; heat = pos 0 }
+noStep = record { fuel = noFuel; value = pos 0; heat = pos 0 }
 
 -- i steps were done, and step i was refused with n where the walk stood at q
 pub record StoppedAt (w : Weights) (s : List ℕ) (st : State) (ps : List Step) (i n : ℕ) (q : State) : Type 0 where

@@ -49,7 +49,7 @@ pub(crate) fn begin(gas: Gas, t: Millikelvin, sheet: &[u32], air: &[u32; rows::R
 }
 
 // A walk done to its end.
-fn done(n: usize, st: Standing) -> WalkAnswer
+fn tell_done(n: usize, st: Standing) -> WalkAnswer
     requires { ⌜ (n ≤ mostSteps) × Limits document01 (st .gas) × (inZ (pos coldest) (pos hottest) (st .t .0) ≡ true) ⌝ }
     ensures { λ r. ⌜ paperWalk r ≡ gives (courseOf n (ended (stateOf st))) ⌝ }
 {
@@ -59,7 +59,7 @@ fn done(n: usize, st: Standing) -> WalkAnswer
 }
 
 // A walk stopped at its step n.
-fn stopped(n: usize, number: u32, st: Standing) -> WalkAnswer
+fn tell_stopped(n: usize, number: u32, st: Standing) -> WalkAnswer
     requires { ⌜ (n ≤ mostSteps) × Limits document01 (st .gas) × (inZ (pos coldest) (pos hottest) (st .t .0) ≡ true) ⌝ }
     ensures { λ r. ⌜ paperWalk r ≡ gives (courseOf n (cut number (stateOf st))) ⌝ }
 {
@@ -75,8 +75,7 @@ fn step_at(steps: &[i64], i: usize) -> Step
 {
     let at = crate::STEP_NUMBERS * i;
     Step {
-        carbon: steps[at],
-        hydrogen: steps[at + 1],
+        fuel: gas::fuelling::fuel_in(&[steps[at], steps[at + 1]]),
         value: steps[at + 2],
         heat: steps[at + 3],
     }
@@ -105,7 +104,7 @@ pub(crate) fn go(
         let place = air::LOOK_PLACES * i;
         match stepping::step(st, step_at(steps, i), &mut looks[place..], sheet, air) {
             Stepped::Refused(number) => {
-                return stopped(i, number, st);
+                return tell_stopped(i, number, st);
             }
             Stepped::Done(next, rest) => {
                 let mk = next.t.0;
@@ -117,5 +116,5 @@ pub(crate) fn go(
         }
         i += 1;
     }
-    done(n, st)
+    tell_done(n, st)
 }

@@ -7,16 +7,16 @@ mod stepping;
 
 use air::Millikelvin;
 use gas::Charge;
+use gas::Fuel;
 use refusal::Refusal;
 use sheet::SheetAnswer;
 ghost use Rattle.sheet.specs.Answers.{sheetLines};
 ghost use Rattle.walk.specs.Lists.{lists};
 ghost use Rattle.walk.specs.Walk.{WalkPromise};
 
-// A step: carbon added, hydrogen added, calorific value in hundredths of C.H.U./lb, plain heat q.
+// A step: the fuel that it adds, calorific value in hundredths of C.H.U./lb, plain heat q.
 pub struct Step {
-    pub carbon: i64,
-    pub hydrogen: i64,
+    pub fuel: Fuel,
     pub value: i64,
     pub heat: i64,
 }

@@ -5,22 +5,21 @@ use air::Millikelvin;
 use gas::Gas;
 use gas::Heat;
 use gas::TemperatureAnswer;
+use gas::fuelling::Fuelled;
 ghost use mathlib.Core.Path.{_≡_};
 ghost use mathlib.Core.Bool.{false};
-ghost use mathlib.Core.List.{[], _∷_};
-ghost use Prim.Native.Nat.{_+_, _≤_};
+ghost use Prim.Native.Nat.{_≤_};
 ghost use lib.IntN.{_+ℤ_, _-ℤ_};
 ghost use lib.ListN.{length};
 ghost use mir.Syntax.{w64};
 ghost use mir.Val.{SFits};
 ghost use Rattle.rows.specs.Rows.{rowsH};
-ghost use Rattle.signed.specs.Zed.{up};
-ghost use Rattle.refusal.specs.Refusals.{first, _when_};
 ghost use Rattle.air.specs.Limits.{lookPlaces};
 ghost use Rattle.sheet.specs.Sheet.{Accepted};
 ghost use Rattle.gas.specs.Burning.{document01, Limits};
-ghost use Rattle.walk.specs.Step.{newGas, stepHeat, wrongAtoms, wrongHeat, asked, held, judge};
-ghost use Rattle.walk.specs.inner.Work.{stateOf, Stands, wrongCount, paperAtoms, paperGrown, InReach, Asks, standingOf, StepGives};
+ghost use Rattle.gas.specs.Fuel.{wrongFuel};
+ghost use Rattle.walk.specs.Step.{stepHeat, wrongHeat, asked, held, judge};
+ghost use Rattle.walk.specs.inner.Work.{stateOf, Stands, InReach, Asks, standingOf, StepGives};
 
 // Where a walk stands: its gas and temperature, with the gas heat there and at 15 °C, so that no step works either out again.
 pub(crate) struct Standing {
@@ -49,55 +48,8 @@ pub(crate) enum Stepped {
     Refused(u32),
 }
 
-// A count of atoms, or none where atoms are taken away or leave their limit.
-pub(crate) enum Atoms {
-    Are(u64),
-    TooMany,
-}
-
-// A gas with atoms added, or none where a count leaves its limit.
-pub(crate) enum Grown {
-    To(Gas),
-    Beyond,
-}
-
-// the most atoms, as a count
-const MOST_ATOMS: u64 = gas::MOST_ATOMS as u64;
 // calorific value or q outside range
 const HEAT: u32 = 7;
-
-// A count of atoms with more added.
-fn add(have: u64, more: i64) -> Atoms
-    requires { ⌜ have ≤ document01 .mostAtoms ⌝ }
-    ensures { λ r. ⌜ paperAtoms r ≡ first (4 when wrongCount have more ∷ []) (have + up more) ⌝ }
-{
-    if !signed::inside(more, 0, gas::MOST_ATOMS) {
-        return Atoms::TooMany;
-    }
-    let sum = have + signed::to_u64(more);
-    if sum > MOST_ATOMS {
-        return Atoms::TooMany;
-    }
-    Atoms::Are(sum)
-}
-
-// The gas with a step's atoms added.
-fn grow(gas: Gas, p: Step) -> Grown
-    requires { ⌜ Limits document01 gas ⌝ }
-    ensures { λ r. ⌜ paperGrown r ≡ first (4 when wrongAtoms document01 gas p ∷ []) (newGas gas p) ⌝ }
-{
-    let Atoms::Are(carbon) = add(gas.carbon, p.carbon) else {
-        return Grown::Beyond;
-    };
-    let Atoms::Are(hydrogen) = add(gas.hydrogen, p.hydrogen) else {
-        return Grown::Beyond;
-    };
-    Grown::To(Gas {
-        air: gas.air,
-        carbon,
-        hydrogen,
-    })
-}
 
 // Whether a step's calorific value or plain heat is outside its range.
 fn wrong_heat(p: Step) -> bool
@@ -111,15 +63,11 @@ fn wrong_heat(p: Step) -> bool
 
 // The heat that a step brings: its fuel's mass × 1000 × the calorific value, and q.
 fn step_heat(gas: Gas, p: Step) -> Heat
-    requires { ⌜ Limits document01 gas × (wrongAtoms document01 gas p ≡ false) × (wrongHeat p ≡ false) ⌝ }
+    requires { ⌜ Limits document01 gas × (wrongFuel document01 gas (p .fuel) ≡ false) × (wrongHeat p ≡ false) ⌝ }
     ensures { λ r. ⌜ r .0 ≡ stepHeat document01 p ⌝ }
 {
-    let fuel = Gas {
-        air: gas.air,
-        carbon: signed::to_u64(p.carbon),
-        hydrogen: signed::to_u64(p.hydrogen),
-    };
-    let burn = signed::of_u64(gas::inner::fuel_mass(fuel) * 1000) * p.value;
+    let fuel = p.fuel;
+    let burn = signed::of_u64(gas::fuelling::mass_added(gas, fuel) * 1000) * p.value;
     Heat(burn + p.heat)
 }
 
@@ -137,9 +85,10 @@ fn asked_of(st: Standing, p: Step, sheet: &[u32], air: &[u32; rows::ROWS]) -> As
     ensures { λ r. ⌜ Asks (asked document01 (now (sheet .entry)) (held document01 (now (sheet .entry)) (stateOf st)) (st .gas) p) (now (sheet .entry)) r ⌝ }
 {
     let old = st.gas;
-    match grow(old, p) {
-        Grown::Beyond => Ask::Refused(gas::LIMIT),
-        Grown::To(gas) => {
+    let fuel = p.fuel;
+    match gas::fuelling::add_fuel(old, fuel) {
+        Fuelled::Beyond => Ask::Refused(gas::LIMIT),
+        Fuelled::To(gas) => {
             if wrong_heat(p) {
                 return Ask::Refused(HEAT);
             }

@@ -1,13 +1,12 @@
 -- What the work of a walk past its start keeps and shows: the state with the two heats that the next step needs, one step, and what it asks. The functions of
 -- src/course.rt and src/stepping.rt cite these; Step.antt and Walk.antt are what they mean.
-use mathlib.Core.Bool.{Bool, true, _||_}
+use mathlib.Core.Bool.{true}
 use mathlib.Core.List.{List, []}
 use mathlib.Core.Path.{_≡_}
-use Prim.Native.Nat.{ℕ, _+_, _*_, _≤_}
-use lib.ListN.{getD}
-use lib.IntN.{ℤ, pos, _+ℤ_, _-ℤ_}
-use lib.Signed.{ltZ}
-use Rattle.signed.specs.Zed.{up, dn, inZ, outside}
+use Prim.Native.Nat.{ℕ, _*_, _≤_}
+use lib.ListN.{drop}
+use lib.IntN.{ℤ, pos, _-ℤ_}
+use Rattle.signed.specs.Zed.{up, dn, inZ}
 use Rattle.refusal.specs.Refusals.{Told, gives, refused, refuses, numberOf}
 use Rattle.air.specs.Limits.{fifteenDegrees, coldest, hottest}
 use Rattle.air.specs.declared.Millikelvin.{Millikelvin}
@@ -21,15 +20,11 @@ use Rattle.walk.specs.declared.stepping.Standing.{Standing}
 use Rattle.walk.specs.declared.stepping.Asking.{Asking}
 use Rattle.walk.specs.declared.stepping.Ask.{Ask}
 use Rattle.walk.specs.declared.stepping.Ask.the-variants.{For, Refused as AskRefused}
-use Rattle.walk.specs.declared.stepping.Atoms.{Atoms}
-use Rattle.walk.specs.declared.stepping.Atoms.the-variants.{Are, TooMany}
-use Rattle.walk.specs.declared.stepping.Grown.{Grown}
-use Rattle.walk.specs.declared.stepping.Grown.the-variants.{To, Beyond}
 use Rattle.walk.specs.declared.stepping.Stepped.{Stepped}
 use Rattle.walk.specs.declared.stepping.Stepped.the-variants.{Done, Refused}
 use Rattle.walk.specs.Lists.{laid}
 use Rattle.walk.specs.declared.Step.{Step}
-use Rattle.walk.specs.Step.{State, Asked, Out}
+use Rattle.walk.specs.Step.{stepIn, State, Asked, Out}
 
 -- where the walk stands
 abbrev pub stateOf : Standing → State
@@ -49,23 +44,9 @@ pub record Begun (s : List ℕ) (g : Gas) (t : Millikelvin) (st : Standing) : Ty
 
 -- the step at an index of a list of numbers
 abbrev pub stepNo : List ℤ → ℕ → Step
-stepNo l i =
-    record { carbon = getD l (stepNumbers * i) (pos 0); hydrogen = getD l (stepNumbers * i + 1) (pos 0); value = getD l (stepNumbers * i + 2) (pos 0); heat = getD l (stepNumbers * i + 3) (pos 0) }
+stepNo l i = stepIn (drop (stepNumbers * i) l)
 
 -- ---- what a step asks
--- a count of atoms with more added is wrong where atoms are taken away, or leave their limit
-abbrev pub wrongCount : ℕ → ℤ → Bool
-wrongCount have more = ltZ more (pos 0) || outside (pos 0) (pos (document01 .mostAtoms)) (pos have +ℤ more)
-
-abbrev pub paperAtoms : Atoms → Told ℕ
-paperAtoms (Are n) = gives n
-paperAtoms TooMany = refuses 4
-
--- a gas with the step's atoms added, refusal 4 tested
-abbrev pub paperGrown : Grown → Told Gas
-paperGrown (To g) = gives g
-paperGrown Beyond = refuses 4
-
 -- two heats and what a step brings, so small that their sum stays inside 64 bits
 pub record InReach (heat fifteen brought new : ℤ) : Type 0 where
   pub heat-most : up heat ≤ 1068080000000000000

@@ -47,8 +47,8 @@ step-requires c κs =
 enum-known-number : tie.Need-enum-known-number Inv-loop μ-loop
 enum-known-number c = search needs
 
-stopped-requires : tie.Need-stopped-requires Inv-loop μ-loop
-stopped-requires c κs =
+tell-stopped-requires : tie.Need-tell-stopped-requires Inv-loop μ-loop
+tell-stopped-requires c κs =
     let b = c .before .before .before .before .before .before .before .before .before .loop in
     (omega arith, b .inv .stands .burns .limits, b .inv .stands .covered)
 
@@ -69,7 +69,7 @@ returns c =
     let b = c .before .before .before .before .before .before .before .before .before .before .loop in
     let s = c .before .before .before .before .before .before .step in
     halted _ _ _ _ _ _ _ _ _ (b .looks) _ _ (b .inv) (search needs) _ (c .before .before .before .before .before .before .before .before .step-at .ensures)
-    (s .result) (s .last .1 .1 .0) _ _ (c .before .before .number .given .1) (c .stopped .ensures) (s .ensures)
+    (s .result) (s .last .1 .1 .0) _ _ (c .before .before .number .given .1) (c .tell-stopped .ensures) (s .ensures)
 
 enum-known-next : tie.Need-enum-known-next Inv-loop μ-loop
 enum-known-next c = search needs
@@ -115,8 +115,8 @@ loop-again c =
     (c .before .before .before .before .before .before .before .before .before .step-at .ensures) (s .result) (s .last .1 .1 .0) _ _ _ _
     (c .before .before .before .next .given .1) (search needs) (search needs) (s .ensures)
 
-done-requires : tie.Need-done-requires Inv-loop μ-loop
-done-requires c κs = let b = c .before .loop in (search needs, b .inv .stands .burns .limits, b .inv .stands .covered)
+tell-done-requires : tie.Need-tell-done-requires Inv-loop μ-loop
+tell-done-requires c κs = let b = c .before .loop in (search needs, b .inv .stands .burns .limits, b .inv .stands .covered)
 
 same-length-4 : tie.Need-same-length-4 Inv-loop μ-loop
 same-length-4 c = search needs
@@ -128,7 +128,7 @@ same-length-6 : tie.Need-same-length-6 Inv-loop μ-loop
 same-length-6 c = search needs
 
 returns-2 : tie.Need-returns-2 Inv-loop μ-loop
-returns-2 c = finish _ _ _ _ _ _ _ _ _ _ _ _ _ (c .before .before .loop .inv) (omega arith) (c .done .ensures)
+returns-2 c = finish _ _ _ _ _ _ _ _ _ _ _ _ _ (c .before .before .loop .inv) (omega arith) (c .tell-done .ensures)
 
 pub go-spec : {M : Type 1} → statement M
 go-spec =
@@ -145,7 +145,7 @@ go-spec =
     part-step-end
     step-requires
     enum-known-number
-    stopped-requires
+    tell-stopped-requires
     same-length
     same-length-2
     same-length-3
@@ -158,7 +158,7 @@ go-spec =
     add-i
     loop-less
     loop-again
-    done-requires
+    tell-done-requires
     same-length-4
     same-length-5
     same-length-6

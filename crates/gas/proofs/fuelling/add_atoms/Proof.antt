@@ -1,14 +1,14 @@
--- `add`: what comes on top is in its range before it is added, and the sum is tried after: together `wrongCount`, and nothing overflows.
+-- `add_atoms`: what comes on top is in its range before it is added, and the sum is tried after: together `wrongCount`, and nothing overflows.
 use borrow.Author.Tests.{not-false}
 use borrow.Author.Needs.{needs}
 use mathlib.Core.Path.{_≡_, refl, sym, _∙_}
 use native.Mathlib.Omega.{arith}
 use lib.IntN.{pos}
 use Rattle.signed.specs.Zed.{dn, apart, in-range, in-plain, tested, tested-plain, tested-nat, zed}
 use Rattle.gas.specs.Burning.{document01}
-use Rattle.walk.proofs.Asking.{count-outside, count-over, count-right}
-use Rattle.walk.proofs.stepping.add.Statement.{statement}
-use Rattle.walk.proofs.stepping.add.Tie as tie
+use Rattle.gas.proofs.Adding.{count-outside, count-over, count-right}
+use Rattle.gas.proofs.fuelling.add_atoms.Statement.{statement}
+use Rattle.gas.proofs.fuelling.add_atoms.Tie as tie
 
 -- what passed the test is not below zero
 above : (c : tie.Else1) → dn (c .before .before .args .more) ≡ 0
@@ -51,5 +51,5 @@ returns-3 c =
     (c .before .before .if1 .left) (c .before .to-u64 .ensures) in
     let s = at-inside .before in rw (count-right (s .args .have) (s .args .more) (above (c .before .before)) (omega (arith, n .number)), n .number) refl
 
-pub add-spec : {M : Type 1} → statement M
-add-spec = tie.close (tie.spec inside-requires returns to-u64-requires add-sum returns-2 returns-3)
+pub add-atoms-spec : {M : Type 1} → statement M
+add-atoms-spec = tie.close (tie.spec inside-requires returns to-u64-requires add-sum returns-2 returns-3)
