@@ -11,7 +11,7 @@ use Rattle.rows.specs.Limits.{firstKelvin, tableRows}
 use Rattle.text.specs.WholesLaws.{and-left, and-right}
 use Rattle.rows.specs.Rows.{rowsH}
 use Rattle.rows.specs.Table.{airH, column}
-use Rattle.sheet.specs.Limits.{mostFigure, sheetNumbers}
+use Rattle.sheet_text.specs.Limits.{mostFigure, sheetNumbers}
 use Rattle.sheet.specs.Sheet.{o2, co2, h2o, overLimit, breaksStep, badRow, Accepted}
 use Rattle.sheet.specs.SheetLaws.{over-no, step-kept}
 use Rattle.built_in.specs.BuiltIn.{builtIn}

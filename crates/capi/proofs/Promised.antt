@@ -8,7 +8,7 @@ use borrow.Author.Tests.{eq-eqb, ne-eqb}
 use Rattle.air.specs.declared.PsiAnswer.{PsiAnswer}
 use Rattle.refusal.specs.Refusals.{Told}
 use Rattle.air.specs.Answers.{paperPsi, PsiInverse}
-use Rattle.sheet.specs.Limits.{sheetNumbers}
+use Rattle.sheet_text.specs.Limits.{sheetNumbers}
 use Rattle.sheet.specs.declared.SheetAnswer.{SheetAnswer}
 use Rattle.sheet.specs.declared.SheetAnswer.the-variants.{Good, Refused}
 use Rattle.sheet.specs.Answers.{paperSheet, numbersOf, listAfter, SheetRead}

@@ -17,7 +17,7 @@ use Rattle.air.specs.Readings.{reading, between, airHeat}
 use Rattle.air.specs.ReadingsLaws.{between-rows, between-last, between-whole, between-line}
 use Rattle.air.specs.Inverse.{Straight}
 use Rattle.air.specs.InverseLaws.{mK-rises}
-use Rattle.sheet.specs.Limits.{mostFigure}
+use Rattle.sheet_text.specs.Limits.{mostFigure}
 use Rattle.sheet.specs.Sheet.{o2, co2, h2o, rise, Accepted}
 use Rattle.sheet.specs.SheetLaws.{accepted-limit, accepted-step}
 use Rattle.gas.specs.declared.Gas.{Gas}

@@ -2,4 +2,3 @@
 pub mod Reading
 pub mod StepRule
 pub mod Copied
-pub mod Filling

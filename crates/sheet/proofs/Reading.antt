@@ -8,15 +8,15 @@ use borrow.Author.Tests.{eq-eqb, ne-eqb}
 use Rattle.text.specs.Fold.{run}
 use Rattle.refusal.specs.declared.Refusal.the-variants.{Plain, At}
 use Rattle.refusal.specs.Refusals.{first}
-use Rattle.sheet.specs.Limits.{sheetNumbers}
+use Rattle.sheet_text.specs.Limits.{sheetNumbers}
 use Rattle.sheet.specs.declared.SheetAnswer.the-variants.{Good, Refused}
-use Rattle.sheet.specs.declared.machine.Place.{Place}
-use Rattle.sheet.specs.declared.machine.State.{State}
-use Rattle.sheet.specs.declared.machine.State.the-variants.{Going}
+use Rattle.sheet_text.specs.declared.Place.{Place}
+use Rattle.sheet_text.specs.declared.State.{State}
+use Rattle.sheet_text.specs.declared.State.the-variants.{Going}
 use Rattle.sheet.specs.Answers.{sheetOf, noSheet, SheetRead}
-use Rattle.sheet.specs.inner.Machine.{start, step, rowOf, wholeSheet, Filled, filled, fillByte}
-use Rattle.sheet.specs.HeldLaws.{sound, same-state}
-use Rattle.sheet.specs.FirstBadLaws.{not-whole-bad}
+use Rattle.sheet_text.specs.Machine.{start, step, rowOf, wholeSheet, Filled, filled, fillByte}
+use Rattle.sheet_text.specs.HeldLaws.{sound, same-state}
+use Rattle.sheet_text.specs.FirstBadLaws.{not-whole-bad}
 use Rattle.sheet.specs.FormLaws.{form-of}
 
 pub wrong-length : (text l : List ℕ) → (length l ≡ sheetNumbers → ⊥) → SheetRead text l (Refused (Plain 1)) l

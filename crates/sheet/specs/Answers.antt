@@ -9,7 +9,7 @@ use Rattle.refusal.specs.Refusals.{Told, gives, refused, Line, _when_, _at-plac
 use Rattle.rows.specs.Limits.{tableRows}
 use Rattle.sheet.specs.declared.SheetAnswer.{SheetAnswer}
 use Rattle.sheet.specs.declared.SheetAnswer.the-variants.{Good, Refused}
-use Rattle.sheet.specs.Text.{IsSheet, FirstBad}
+use Rattle.sheet_text.specs.Text.{IsSheet, FirstBad}
 use Rattle.sheet.specs.Sheet.{notLong, firstBadRow}
 
 -- an answer as the paper has it: good, with no value of its own, or the refusal

@@ -12,10 +12,10 @@ use Rattle.refusal.specs.Refusals.{gives, refuses, refusesAt, refused, Line, _w
 use Rattle.refusal.specs.declared.Refusal.{Refusal}
 use Rattle.refusal.specs.OrdersLaws.{stopped-first}
 use Rattle.rows.specs.Limits.{tableRows}
-use Rattle.sheet.specs.Limits.{sheetNumbers}
+use Rattle.sheet_text.specs.Limits.{sheetNumbers}
 use Rattle.sheet.specs.declared.SheetAnswer.{SheetAnswer}
 use Rattle.sheet.specs.declared.SheetAnswer.the-variants.{Good, Refused}
-use Rattle.sheet.specs.Text.{sheetText, Numbers, IsSheet}
+use Rattle.sheet_text.specs.Text.{sheetText, Numbers, IsSheet}
 use Rattle.sheet.specs.OneOutcome.{one-read_sheet}
 use Rattle.sheet.specs.Answers.{paperSheet, Form, sheetOf, noSheet, breaks, badRowOf, numbersOf, SheetRead, sheetLines, judgeTold}
 use Rattle.sheet.specs.Sheet.{firstBadRow, Accepted}

@@ -12,7 +12,7 @@ use Rattle.refusal.specs.Refusals.{refusesAt}
 use Rattle.rows.specs.Limits.{firstKelvin, lastKelvin, tableRows}
 use Rattle.rows.specs.Table.{airH}
 use Rattle.rows.specs.TableLaws.{H-grows, H-most, H-first}
-use Rattle.sheet.specs.Limits.{mostFigure, sheetNumbers}
+use Rattle.sheet_text.specs.Limits.{mostFigure, sheetNumbers}
 use Rattle.sheet.specs.Answers.{judgeTold}
 use Rattle.sheet.specs.AnswersLaws.{told-row}
 use Rattle.sheet.specs.Sheet.{o2, co2, h2o, overLimit, rise, breaksStep, badRow, Accepted}

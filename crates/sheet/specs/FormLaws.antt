@@ -5,12 +5,12 @@ use mathlib.Core.List.{List}
 use Prim.Native.Nat.{ℕ}
 use native.Mathlib.Omega.{arith}
 use Rattle.text.specs.Fold.{run}
-use Rattle.sheet.specs.Text.{IsSheet, FirstBad}
+use Rattle.sheet_text.specs.Text.{IsSheet, FirstBad}
 use Rattle.sheet.specs.Answers.{Form, sheetOf, noSheet, breaks, badRowOf, numbersOf}
-use Rattle.sheet.specs.inner.Machine.{start, step, rowOf, wholeSheet, Filled, filled, fillByte}
-use Rattle.sheet.specs.WholeLaws.{complete}
-use Rattle.sheet.specs.HeldLaws.{sound}
-use Rattle.sheet.specs.FirstBadLaws.{sheet-whole, not-whole-bad, bad-row-is, blank, blank-full}
+use Rattle.sheet_text.specs.Machine.{start, step, rowOf, wholeSheet, Filled, filled, fillByte}
+use Rattle.sheet_text.specs.WholeLaws.{complete}
+use Rattle.sheet_text.specs.HeldLaws.{sound}
+use Rattle.sheet_text.specs.FirstBadLaws.{sheet-whole, not-whole-bad, bad-row-is, blank, blank-full}
 
 -- ---- every text has a form
 pub form-of : (text : List ℕ) → Form text

@@ -1,13 +1,6 @@
--- The sheet's text, a sheet list's acceptance, and what the calls on them tell: definitions, and the laws that other crates cite
-pub mod Limits
-pub mod Text
+-- A sheet list's acceptance, and what the calls on a sheet tell: definitions, and the laws that other crates cite
 pub mod Sheet
 pub mod Answers
-pub mod inner
-pub mod MachineLaws
-pub mod WholeLaws
-pub mod HeldLaws
-pub mod FirstBadLaws
 pub mod SheetLaws
 pub mod FormLaws
 pub mod OneOutcome

@@ -6,7 +6,7 @@ use Rattle.refusal.specs.Refusals.{Told, gives, refused}
 use Rattle.sheet.specs.declared.SheetAnswer.{SheetAnswer}
 use Rattle.sheet.specs.declared.SheetAnswer.the-variants.{Good, Refused}
 use Rattle.sheet.specs.Answers.{paperSheet, readTold, listAfter, SheetRead, judgeTold}
-use Rattle.sheet.specs.inner.Machine.{after}
+use Rattle.sheet_text.specs.Machine.{after}
 use Rattle.sheet.specs.FormLaws.{one-form}
 
 -- the answer of what it tells

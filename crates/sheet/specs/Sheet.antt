@@ -8,7 +8,7 @@ use lib.Dec.{ltb, eqb}
 use lib.ListN.{length, getD}
 use Rattle.rows.specs.Limits.{firstKelvin, tableRows}
 use Rattle.rows.specs.Table.{airH}
-use Rattle.sheet.specs.Limits.{mostFigure, sheetNumbers}
+use Rattle.sheet_text.specs.Limits.{mostFigure, sheetNumbers}
 
 -- the three columns by kelvin
 unfoldable pub o2 : List ℕ → ℕ → ℕ

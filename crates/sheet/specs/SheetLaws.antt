@@ -12,8 +12,8 @@ use lib.ListN.{getD, List·getD-eq-default}
 use borrow.Author.Tests.{ltb-false, lt-ltb, le-ltb}
 use Rattle.rows.specs.Limits.{firstKelvin, lastKelvin, tableRows}
 use Rattle.rows.specs.Table.{airH}
-use Rattle.sheet.specs.Limits.{mostFigure, sheetNumbers}
-use Rattle.sheet.specs.Text.{Numbers}
+use Rattle.sheet_text.specs.Limits.{mostFigure, sheetNumbers}
+use Rattle.sheet_text.specs.Text.{Numbers}
 use Rattle.sheet.specs.Sheet.{o2, co2, h2o, overLimit, falls, rise, breaksStep, badRow, firstFrom, firstBadRow, Accepted}
 use Rattle.refusal.specs.BoolLaws.{neither}
 use Rattle.air.specs.Readings.{NeverFalls}

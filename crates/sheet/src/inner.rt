@@ -7,7 +7,7 @@ ghost use Prim.Native.Nat.{_≤_, _<_};
 ghost use lib.ListN.{length};
 ghost use Rattle.rows.specs.Limits.{firstKelvin, lastKelvin};
 ghost use Rattle.rows.specs.Rows.{rowsH};
-ghost use Rattle.sheet.specs.Limits.{sheetNumbers};
+ghost use Rattle.sheet_text.specs.Limits.{sheetNumbers};
 ghost use Rattle.sheet.specs.Sheet.{o2, co2, h2o};
 ghost use Rattle.sheet.specs.Answers.{paperSheet, judgeTold};
 
@@ -20,7 +20,7 @@ pub fn judge(list: &[u32], air: &[u32; rows::ROWS]) -> SheetAnswer
         return SheetAnswer::Refused(Refusal::Plain(crate::LIST_LENGTH));
     }
     let row = judging::first_bad_row(list, air);
-    if row < crate::ROWS {
+    if row < sheet_text::ROWS {
         SheetAnswer::Refused(Refusal::At(crate::BAD_ROW, row))
     } else {
         SheetAnswer::Good

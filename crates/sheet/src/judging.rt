@@ -5,7 +5,7 @@ ghost use Prim.Native.Nat.{_≤_, _<_};
 ghost use lib.ListN.{length};
 ghost use Rattle.rows.specs.Limits.{firstKelvin, lastKelvin, tableRows};
 ghost use Rattle.rows.specs.Rows.{rowsH};
-ghost use Rattle.sheet.specs.Limits.{sheetNumbers};
+ghost use Rattle.sheet_text.specs.Limits.{sheetNumbers};
 ghost use Rattle.sheet.specs.Sheet.{overLimit, breaksStep, badRow, firstBadRow};
 
 // Whether the row of a kelvin holds a value over the most.
@@ -13,13 +13,13 @@ fn over_limit(list: &[u32], kelvin: u64) -> bool
     requires { ⌜ (length (now list) ≡ sheetNumbers) × (firstKelvin ≤ kelvin) × (kelvin ≤ lastKelvin) ⌝ }
     ensures { λ r. ⌜ r ≡ overLimit (now (list .entry)) kelvin ⌝ }
 {
-    if inner::o2_at(list, kelvin) > crate::MOST_FIGURE {
+    if inner::o2_at(list, kelvin) > sheet_text::MOST_FIGURE {
         return true;
     }
-    if inner::co2_at(list, kelvin) > crate::MOST_FIGURE {
+    if inner::co2_at(list, kelvin) > sheet_text::MOST_FIGURE {
         return true;
     }
-    inner::h2o_at(list, kelvin) > crate::MOST_FIGURE
+    inner::h2o_at(list, kelvin) > sheet_text::MOST_FIGURE
 }
 
 // Whether the step rule is broken from a kelvin to the next.
@@ -63,7 +63,7 @@ pub(crate) fn first_bad_row(list: &[u32], air: &[u32; rows::ROWS]) -> u32
         return 0;
     }
     let mut row = 1;
-    while row < crate::ROWS {
+    while row < sheet_text::ROWS {
         if bad_row(list, air, row) {
             return row;
         }

@@ -1,9 +1,8 @@
 // The gas sheet (document 01, "The gas sheet"): its text read into a list, and a list judged before it is used.
 // Every call takes every input. What an answer tells, in the paper's numbers (`paper` of specs/Answers.antt), is the first refusal of its order whose
-// condition holds. The conditions are of the text itself (specs/Text.antt) and of the list by kelvin (specs/Sheet.antt); a refusal leaves the list as it was.
+// condition holds. The conditions are of the text itself (specs/Text.antt of sheet_text) and of the list by kelvin (specs/Sheet.antt); a refusal leaves the list as it was.
 pub mod inner;
 mod judging;
-mod machine;
 
 use refusal::Refusal;
 ghost use mathlib.Core.Path.{_≡_};
@@ -15,14 +14,8 @@ pub enum SheetAnswer {
     Refused(Refusal),
 }
 
-// the rows of a sheet, as a row is counted, and the kelvin of the first
-const ROWS: u32 = rows::ROWS as u32;
-
-const FIRST_KELVIN: u32 = rows::FIRST_KELVIN as u32;
 // three numbers a row
 pub const NUMBERS: usize = 3 * rows::ROWS;
-// no value is over it
-const MOST_FIGURE: u64 = 200000;
 
 // a lent sheet list is not as long as a sheet
 pub const LIST_LENGTH: u32 = 1;
@@ -39,12 +32,12 @@ pub fn read_sheet(text: &[u8], list: &mut [u32]) -> SheetAnswer
         return SheetAnswer::Refused(Refusal::Plain(LIST_LENGTH));
     }
     let mut numbers = [0u32; NUMBERS];
-    let s = machine::fill(machine::start(), text, &mut numbers);
-    if machine::whole_sheet(s) {
+    let s = sheet_text::fill(sheet_text::start(), text, &mut numbers);
+    if sheet_text::whole_sheet(s) {
         inner::copy(&numbers, list);
         SheetAnswer::Good
     } else {
-        SheetAnswer::Refused(Refusal::At(FORM, machine::row_of(s)))
+        SheetAnswer::Refused(Refusal::At(FORM, sheet_text::row_of(s)))
     }
 }
 

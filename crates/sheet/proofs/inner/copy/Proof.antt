@@ -6,7 +6,7 @@ use mathlib.Core.List.{List, _++_}
 use Prim.Native.Nat.{ℕ, _≤_, _-_}
 use native.Mathlib.Omega.{arith}
 use lib.ListN.{length, take, drop, set, getD, length-set}
-use Rattle.sheet.specs.Limits.{sheetNumbers}
+use Rattle.sheet_text.specs.Limits.{sheetNumbers}
 use Rattle.sheet.proofs.Copied.{copy-more, copy-whole}
 use Rattle.sheet.proofs.inner.copy.Statement.{statement}
 use Rattle.sheet.proofs.inner.copy.Tie as tie

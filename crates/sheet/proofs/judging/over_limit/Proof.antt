@@ -4,7 +4,7 @@ use native.Mathlib.Omega.{arith}
 use lib.Dec.{ltb}
 use borrow.Author.Tests.{lt-ltb, le-ltb}
 use borrow.Author.Needs.{needs}
-use Rattle.sheet.specs.Limits.{mostFigure}
+use Rattle.sheet_text.specs.Limits.{mostFigure}
 use Rattle.sheet.specs.Sheet.{o2, co2, overLimit}
 use Rattle.sheet.proofs.judging.over_limit.Statement.{statement}
 use Rattle.sheet.proofs.judging.over_limit.Tie as tie
