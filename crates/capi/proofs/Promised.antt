@@ -20,11 +20,11 @@ use Rattle.gas.specs.Answers.{paperTemperature, Temperature}
 use Rattle.walk.specs.declared.WalkAnswer.{WalkAnswer}
 use Rattle.walk.specs.Lists.{Lists}
 use Rattle.walk.specs.Walk.{Trace, paperWalk, Walks}
-use Rattle.capi.specs.declared.SheetTold.{SheetTold}
-use Rattle.capi.specs.declared.TemperatureTold.{TemperatureTold}
-use Rattle.capi.specs.declared.PsiTold.{PsiTold}
-use Rattle.capi.specs.declared.WalkTold.{WalkTold}
-use Rattle.capi.specs.Flat.{flatSheet, flatTemperature, flatPsi, flatWalk}
+use Rattle.telling.specs.declared.SheetTold.{SheetTold}
+use Rattle.telling.specs.declared.TemperatureTold.{TemperatureTold}
+use Rattle.telling.specs.declared.PsiTold.{PsiTold}
+use Rattle.telling.specs.declared.WalkTold.{WalkTold}
+use Rattle.telling.specs.Flat.{flatSheet, flatTemperature, flatPsi, flatWalk}
 use Rattle.capi.specs.Lent.{listTold, SheetIs, BuiltInIs, TemperatureIs, PsiIs, WalkIs}
 
 -- the list by the answer is the list by what it tells

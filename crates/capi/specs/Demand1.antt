@@ -8,8 +8,8 @@ use mathlib.Core.Path.{_≡_}
 use Prim.Native.Nat.{ℕ, _<_}
 use lib.Dec.{ltb}
 use Rattle.refusal.specs.Refusals.{Line, refusalOf, lineNumber, First, Clear}
-use Rattle.capi.specs.declared.WalkTold.{WalkTold}
-use Rattle.capi.specs.Flat.{rowIn, placedIn}
+use Rattle.telling.specs.declared.WalkTold.{WalkTold}
+use Rattle.telling.specs.Flat.{rowIn, placedIn}
 
 -- the row of a line, 0 where it has none
 abbrev pub lineRow : Line → ℕ

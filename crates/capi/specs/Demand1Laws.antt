@@ -29,16 +29,16 @@ use Rattle.walk.specs.Lists.{Lists}
 use Rattle.walk.specs.Walk.{Trace, End, ended, cut, run, stepsOf, startLines, startState, walked, walkedInto, courseOf, course}
 use Rattle.marking.specs.Marking.{order as markOrder, marked}
 use Rattle.marking.specs.Figures.{stationTold}
-use Rattle.capi.specs.declared.SheetTold.{SheetTold}
-use Rattle.capi.specs.declared.ReadingTold.{ReadingTold}
-use Rattle.capi.specs.declared.BurnTold.{BurnTold}
-use Rattle.capi.specs.declared.HeatTold.{HeatTold}
-use Rattle.capi.specs.declared.TemperatureTold.{TemperatureTold}
-use Rattle.capi.specs.declared.PsiTold.{PsiTold}
-use Rattle.capi.specs.declared.WalkTold.{WalkTold}
-use Rattle.capi.specs.declared.StationTold.{StationTold}
-use Rattle.capi.specs.declared.MarkTold.{MarkTold}
-use Rattle.capi.specs.Flat.{number, row, placed, flatSheet, flatReading, flatBurn, flatHeat, flatStation, flatMark, flatBegun, flatUnbegun, flatWalk, typedOf}
+use Rattle.telling.specs.declared.SheetTold.{SheetTold}
+use Rattle.telling.specs.declared.ReadingTold.{ReadingTold}
+use Rattle.telling.specs.declared.BurnTold.{BurnTold}
+use Rattle.telling.specs.declared.HeatTold.{HeatTold}
+use Rattle.telling.specs.declared.TemperatureTold.{TemperatureTold}
+use Rattle.telling.specs.declared.PsiTold.{PsiTold}
+use Rattle.telling.specs.declared.WalkTold.{WalkTold}
+use Rattle.telling.specs.declared.StationTold.{StationTold}
+use Rattle.telling.specs.declared.MarkTold.{MarkTold}
+use Rattle.telling.specs.Flat.{number, row, placed, flatSheet, flatReading, flatBurn, flatHeat, flatStation, flatMark, flatBegun, flatUnbegun, flatWalk, typedOf}
 use Rattle.capi.specs.Lent.{SheetIs, BuiltInIs, TemperatureIs, PsiIs, WalkIs}
 use Rattle.capi.specs.Demand1.{lineRow, linePlaced, numbered, FlatDemand1, WalkDemand1}
 

@@ -16,11 +16,11 @@ use Rattle.gas.specs.Heat.{gasHeat}
 use Rattle.gas.specs.Answers.{temperatureTold}
 use Rattle.walk.specs.Lists.{Lists}
 use Rattle.walk.specs.Walk.{Trace, walkedInto, course, filled}
-use Rattle.capi.specs.declared.SheetTold.{SheetTold}
-use Rattle.capi.specs.declared.TemperatureTold.{TemperatureTold}
-use Rattle.capi.specs.declared.PsiTold.{PsiTold}
-use Rattle.capi.specs.declared.WalkTold.{WalkTold}
-use Rattle.capi.specs.Flat.{flatSheet, flatTemperature, flatPsi, flatWalk}
+use Rattle.telling.specs.declared.SheetTold.{SheetTold}
+use Rattle.telling.specs.declared.TemperatureTold.{TemperatureTold}
+use Rattle.telling.specs.declared.PsiTold.{PsiTold}
+use Rattle.telling.specs.declared.WalkTold.{WalkTold}
+use Rattle.telling.specs.Flat.{flatSheet, flatTemperature, flatPsi, flatWalk}
 
 -- the list of a sheet after a call that fills it: all numbers of the sheet, and unchanged by a refusal
 abbrev pub listTold : Told (Unit {0}) → List ℕ → List ℕ → List ℕ

@@ -1,4 +1,3 @@
-pub mod Flat
 pub mod Lent
 pub mod Demand1
 pub mod OneOutcome

@@ -15,16 +15,16 @@ use Rattle.walk.specs.Lists.{Lists}
 use Rattle.walk.specs.Walk.{Trace}
 use Rattle.marking.specs.Marking.{marked}
 use Rattle.marking.specs.Figures.{stationTold}
-use Rattle.capi.specs.declared.SheetTold.{SheetTold}
-use Rattle.capi.specs.declared.ReadingTold.{ReadingTold}
-use Rattle.capi.specs.declared.BurnTold.{BurnTold}
-use Rattle.capi.specs.declared.HeatTold.{HeatTold}
-use Rattle.capi.specs.declared.TemperatureTold.{TemperatureTold}
-use Rattle.capi.specs.declared.PsiTold.{PsiTold}
-use Rattle.capi.specs.declared.WalkTold.{WalkTold}
-use Rattle.capi.specs.declared.StationTold.{StationTold}
-use Rattle.capi.specs.declared.MarkTold.{MarkTold}
-use Rattle.capi.specs.Flat.{flatSheet, flatReading, flatBurn, flatHeat, flatStation, flatMark, typedOf}
+use Rattle.telling.specs.declared.SheetTold.{SheetTold}
+use Rattle.telling.specs.declared.ReadingTold.{ReadingTold}
+use Rattle.telling.specs.declared.BurnTold.{BurnTold}
+use Rattle.telling.specs.declared.HeatTold.{HeatTold}
+use Rattle.telling.specs.declared.TemperatureTold.{TemperatureTold}
+use Rattle.telling.specs.declared.PsiTold.{PsiTold}
+use Rattle.telling.specs.declared.WalkTold.{WalkTold}
+use Rattle.telling.specs.declared.StationTold.{StationTold}
+use Rattle.telling.specs.declared.MarkTold.{MarkTold}
+use Rattle.telling.specs.Flat.{flatSheet, flatReading, flatBurn, flatHeat, flatStation, flatMark, typedOf}
 use Rattle.capi.specs.Lent.{listTold, SheetIs, BuiltInIs, TemperatureIs, PsiIs, WalkIs}
 
 pub «one-gaskeys_version_1» : (r q : ℕ) → r ≡ 1 → q ≡ 1 → r ≡ q

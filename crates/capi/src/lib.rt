@@ -1,13 +1,20 @@
 // The calls for C and Rust: numbers and lent lists in, one struct by value out. Each takes every input and asks the entry of the same name; its promise is that entry's,
 // with the answer set out as a struct: 0 or the refusal's number, its row and whether it has one, the values, and 0 in every field that a case does not have
-// (specs/Flat.antt). Lent lists hold on return what the entry promises (specs/Lent.antt). Two have no entry below: the built-in sheet put into a list, and the version.
+// (specs/Flat.antt of telling). Lent lists hold on return what the entry promises (specs/Lent.antt). Two have no entry below: the built-in sheet put into a list, and the version.
 // include/gaskeys.h has the same calls for a reader of C.
-mod telling;
-
 use air::Millikelvin;
 use gas::Heat;
 use refusal::Refusal;
 use sheet::SheetAnswer;
+use telling::BurnTold;
+use telling::HeatTold;
+use telling::MarkTold;
+use telling::PsiTold;
+use telling::ReadingTold;
+use telling::SheetTold;
+use telling::StationTold;
+use telling::TemperatureTold;
+use telling::WalkTold;
 ghost use mathlib.Core.Path.{_≡_};
 ghost use mathlib.Core.List.{[], _∷_};
 ghost use Rattle.air.specs.Answers.{airHeatTold, psiTold as airPsiTold, cpTold as airCpTold};
@@ -17,104 +24,11 @@ ghost use Rattle.gas.specs.Answers.{burnTold, heatTold, contentTold, specificTo
 ghost use Rattle.walk.specs.Lists.{lists};
 ghost use Rattle.marking.specs.Marking.{marked};
 ghost use Rattle.marking.specs.Figures.{stationTold};
-ghost use Rattle.capi.specs.Flat.{flatSheet, flatBurn, flatHeat, flatReading, flatStation, flatMark, typedOf};
+ghost use Rattle.telling.specs.Flat.{flatSheet, flatBurn, flatHeat, flatReading, flatStation, flatMark, typedOf};
 ghost use Rattle.capi.specs.Lent.{SheetIs, BuiltInIs, TemperatureIs, PsiIs, WalkCall};
 
 // up by one where a list or a struct changes its meaning
 const VERSION: u32 = 1;
-
-// What the calls that read, judge or give a sheet tell.
-#[repr(C)]
-pub struct SheetTold {
-    pub refusal: u32,
-    pub row: u32,
-    pub placed: u32,
-}
-
-// What a charge burns to, in mg.
-#[repr(C)]
-pub struct BurnTold {
-    pub refusal: u32,
-    pub row: u32,
-    pub placed: u32,
-    pub co2: u64,
-    pub h2o: u64,
-    pub o2: u64,
-    pub n2: u64,
-    pub ar: u64,
-}
-
-// A gas heat or a content in mg times 0.00001 C.H.U./lb, or a specific content in 0.00001 C.H.U./lb.
-#[repr(C)]
-pub struct HeatTold {
-    pub refusal: u32,
-    pub row: u32,
-    pub placed: u32,
-    pub heat: i64,
-}
-
-// A number read from the air table.
-#[repr(C)]
-pub struct ReadingTold {
-    pub refusal: u32,
-    pub row: u32,
-    pub placed: u32,
-    pub reading: u64,
-}
-
-// The temperature of a gas heat, with the rest in mg times 0.00001 C.H.U./lb.
-#[repr(C)]
-pub struct TemperatureTold {
-    pub refusal: u32,
-    pub row: u32,
-    pub placed: u32,
-    pub millikelvin: i64,
-    pub rest: i64,
-}
-
-// The temperature of a psi of air, with the rest in 0.0000001.
-#[repr(C)]
-pub struct PsiTold {
-    pub refusal: u32,
-    pub row: u32,
-    pub placed: u32,
-    pub millikelvin: i64,
-    pub rest: u64,
-}
-
-// A walk. `begun` is 1 where it got past its start: done where `refusal` is 0, else stopped by that refusal of a step.
-#[repr(C)]
-pub struct WalkTold {
-    pub refusal: u32,
-    pub row: u32,
-    pub placed: u32,
-    pub begun: u32,
-    pub steps: u32,
-    pub air: i64,
-    pub carbon: i64,
-    pub hydrogen: i64,
-    pub millikelvin: i64,
-}
-
-// A station's three figures.
-#[repr(C)]
-pub struct StationTold {
-    pub refusal: u32,
-    pub row: u32,
-    pub placed: u32,
-    pub millikelvin: f64,
-    pub content: f64,
-    pub mass: f64,
-}
-
-// A mark: `counts` is 1 where the answer counts.
-#[repr(C)]
-pub struct MarkTold {
-    pub refusal: u32,
-    pub row: u32,
-    pub placed: u32,
-    pub counts: u32,
-}
 
 // The version of these calls. The symbol has it in its name, so that what was compiled for another version does not link.
 #[no_mangle]

@@ -2,7 +2,7 @@
 use borrow.Author.Needs.{needs}
 use mathlib.Core.Path.{_∙_, ap}
 use Rattle.signed.specs.Zed.{back}
-use Rattle.capi.specs.Flat.{flatReading}
+use Rattle.telling.specs.Flat.{flatReading}
 use Rattle.capi.proofs.gaskeys_air_cp.Statement.{statement}
 use Rattle.capi.proofs.gaskeys_air_cp.Tie as tie
 

@@ -2,7 +2,7 @@
 use borrow.Author.Needs.{needs}
 use mathlib.Core.Path.{_∙_, ap}
 use Rattle.signed.specs.Zed.{back}
-use Rattle.capi.specs.Flat.{flatBurn}
+use Rattle.telling.specs.Flat.{flatBurn}
 use Rattle.capi.proofs.gaskeys_burn.Statement.{statement}
 use Rattle.capi.proofs.gaskeys_burn.Tie as tie
 

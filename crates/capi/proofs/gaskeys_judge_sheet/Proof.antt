@@ -1,7 +1,7 @@
 -- `gaskeys_judge_sheet`: what `sheet::judge_sheet` tells of the list, laid out in a struct.
 use borrow.Author.Needs.{needs}
 use mathlib.Core.Path.{_∙_, ap}
-use Rattle.capi.specs.Flat.{flatSheet}
+use Rattle.telling.specs.Flat.{flatSheet}
 use Rattle.capi.proofs.gaskeys_judge_sheet.Statement.{statement}
 use Rattle.capi.proofs.gaskeys_judge_sheet.Tie as tie
 

@@ -2,7 +2,7 @@
 use borrow.Author.Needs.{needs}
 use mathlib.Core.Path.{_∙_, ap}
 use Rattle.signed.specs.Zed.{back}
-use Rattle.capi.specs.Flat.{flatMark}
+use Rattle.telling.specs.Flat.{flatMark}
 use Rattle.capi.proofs.gaskeys_mark.Statement.{statement}
 use Rattle.capi.proofs.gaskeys_mark.Tie as tie
 

@@ -2,7 +2,7 @@
 use borrow.Author.Needs.{needs}
 use mathlib.Core.Path.{_∙_, ap}
 use Rattle.signed.specs.Zed.{back}
-use Rattle.capi.specs.Flat.{flatHeat}
+use Rattle.telling.specs.Flat.{flatHeat}
 use Rattle.capi.proofs.gaskeys_specific_content.Statement.{statement}
 use Rattle.capi.proofs.gaskeys_specific_content.Tie as tie
 

@@ -2,7 +2,7 @@
 use borrow.Author.Needs.{needs}
 use mathlib.Core.Path.{_∙_, ap}
 use Rattle.signed.specs.Zed.{back}
-use Rattle.capi.specs.Flat.{flatStation}
+use Rattle.telling.specs.Flat.{flatStation}
 use Rattle.capi.proofs.gaskeys_station.Statement.{statement}
 use Rattle.capi.proofs.gaskeys_station.Tie as tie
 

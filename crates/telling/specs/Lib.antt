@@ -1,0 +1,2 @@
+-- Each answer as the struct that C gets
+pub mod Flat
