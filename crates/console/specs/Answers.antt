@@ -50,7 +50,7 @@ airReply reading Not = misfitText
 
 -- burn A c h
 abbrev pub burnText : Three → List ℕ
-burnText (AreThree air carbon hydrogen) = burntText (burnTold document01 (chargeIn (air ∷ carbon ∷ hydrogen ∷ [])))
+burnText (AreThree a b c) = burntText (burnTold document01 (chargeIn (a ∷ b ∷ c ∷ [])))
 burnText NotThree = misfitText
 
 -- gas-heat, content and specific-content A c h mK; temperature A c h target; station A c h mK, whose figures are exactly their numbers (`station-exact` of marking)

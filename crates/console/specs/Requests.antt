@@ -53,6 +53,6 @@ requestOf = namedBy requests Unknown
 
 -- four numbers are a charge and a number to be asked of the sheet; a sheet that was refused when it was read tells its refusal instead
 abbrev pub gasAskOf : Four → SheetAnswer → GasAsk
-gasAskOf (Are air carbon hydrogen number) Good = Of (chargeIn (air ∷ carbon ∷ hydrogen ∷ [])) number
-gasAskOf (Are air carbon hydrogen number) (SheetRefused r) = Refused r
+gasAskOf (Are a b c number) Good = Of (chargeIn (a ∷ b ∷ c ∷ [])) number
+gasAskOf (Are a b c number) (SheetRefused r) = Refused r
 gasAskOf Not verdict = Misfit

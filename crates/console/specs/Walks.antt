@@ -61,7 +61,7 @@ startOf (Count n) zs = cond (leb startNumbers n) (Are (getD zs 0 (pos 0)) (getD 
 startOf Bad zs = Not
 
 abbrev pub walkOf : SheetAnswer → List ℕ → Four → List ℤ → List ℕ
-walkOf verdict s (Are air carbon hydrogen mk) numbers = walkText (walkTold verdict s (chargeIn (air ∷ carbon ∷ hydrogen ∷ [])) mk numbers)
+walkOf verdict s (Are a b c mk) numbers = walkText (walkTold verdict s (chargeIn (a ∷ b ∷ c ∷ [])) mk numbers)
 walkOf verdict s Not numbers = misfitText
 
 abbrev pub walkRequest : SheetAnswer → List ℕ → List (List ℕ) → List ℕ

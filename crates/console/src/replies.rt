@@ -114,7 +114,7 @@ fn reply_burn(numbers: Three, out: &mut [u8], at: usize) -> usize
     ensures { λ r. ⌜ Puts replyRoom (burnText numbers) (now (out .entry)) at r (now (out .exit)) ⌝ }
 {
     match numbers {
-        Three::Are(air, carbon, hydrogen) => put_burnt(gas::burn(air, carbon, hydrogen), out, at),
+        Three::Are(a, b, c) => put_burnt(gas::burn(gas::inner::charge_in(&[a, b, c])), out, at),
         Three::Not => put_misfit(out, at),
     }
 }

@@ -104,10 +104,8 @@ pub(crate) fn gas_ask_of(numbers: Four, verdict: SheetAnswer) -> GasAsk
     ensures { λ r. ⌜ r ≡ gasAskOf numbers verdict ⌝ }
 {
     match numbers {
-        Four::Are(air, carbon, hydrogen, number) => match verdict {
-            SheetAnswer::Good => {
-                GasAsk::Of(gas::inner::charge_in(&[air, carbon, hydrogen]), number)
-            }
+        Four::Are(a, b, c, number) => match verdict {
+            SheetAnswer::Good => GasAsk::Of(gas::inner::charge_in(&[a, b, c]), number),
             SheetAnswer::Refused(refusal) => GasAsk::Refused(refusal),
         },
         Four::Not => GasAsk::Misfit,
