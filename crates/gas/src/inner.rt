@@ -22,7 +22,7 @@ ghost use Rattle.rows.specs.Rows.{rowsH};
 ghost use Rattle.refusal.specs.Refusals.{first};
 ghost use Rattle.air.specs.Limits.{lookPlaces, coldest, hottest};
 ghost use Rattle.sheet.specs.Sheet.{Accepted};
-ghost use Rattle.gas.specs.Burning.{document01, chargeNumbers, chargeIn, gasOf, chargeOf, beyond as Burning·beyond, Limits, lean as Burning·lean, Burns, fuelMass, totalMass};
+ghost use Rattle.gas.specs.Burning.{document01, chargeNumbers, chargeIn, numbersOfCharge, gasOf, chargeOf, beyond as Burning·beyond, Limits, lean as Burning·lean, Burns, fuelMass, totalMass};
 ghost use Rattle.gas.specs.Heat.{gasHeat, contentAbove15, specificContent};
 ghost use Rattle.gas.specs.Answers.{paperGas, paperHeat, paperSpecific, chargeLines, temperatureLines, heatTold, contentTold, specificTold, Inverted, Temperature};
 
@@ -45,6 +45,13 @@ pub fn charge_in(numbers: &[i64]) -> Charge
         carbon: numbers[1],
         hydrogen: numbers[2],
     }
+}
+
+// The numbers of a charge: A, c, h.
+pub fn numbers_of(charge: Charge) -> [i64; CHARGE_NUMBERS]
+    ensures { λ r. ⌜ r ≡ numbersOfCharge charge ⌝ }
+{
+    [charge.air, charge.carbon, charge.hydrogen]
 }
 
 // Whether A, c or h is outside its limit.
