@@ -3,11 +3,11 @@ use borrow.Author.Tests.{not-false}
 use mathlib.Core.Path.{_≡_, refl, ap}
 use mathlib.Core.Bool.{true, false, not}
 use mathlib.Core.List.{List, [], _∷_}
-use Prim.Native.Nat.{ℕ, _+_, _*_, _/_, _≤_}
+use Prim.Native.Nat.{ℕ, _+_, _*_, _/_, _<_, _≤_}
 use native.Mathlib.Omega.{arith}
 use lib.Dec.{lit<}
 use lib.IntN.{ℤ, pos, _-ℤ_}
-use lib.ListN.{length, take}
+use lib.ListN.{length, take, getD}
 use Rattle.signed.specs.Zed.{up, In, inZ, in-range, is-diff, dn-none, leZ-true, apart, zed}
 use Rattle.refusal.specs.BoolLaws.{neither, both-hold}
 use Rattle.refusal.specs.Refusals.{gives, first, Clear, clear, none}
@@ -33,7 +33,11 @@ charge-numbers-back (a ∷ []) h = absurd (omega arith)
 charge-numbers-back (a ∷ b ∷ []) h = absurd (omega arith)
 charge-numbers-back (a ∷ b ∷ c ∷ l) h = refl
 
--- and so is a gas from the charge that it is
+-- lists whose first numbers are the same are the same charge
+pub charge-alike : (l m : List ℤ) → ((i : ℕ) → i < chargeNumbers → getD l i (pos 0) ≡ getD m i (pos 0)) → chargeIn l ≡ chargeIn m
+charge-alike l m g = rw (g 0 (lit< tt), g 1 (lit< tt), g 2 (lit< tt)) refl
+
+-- and a gas is had back from the charge that it is
 pub gas-back : (g : Gas) → gasOf (chargeOf g) ≡ g
 gas-back g = refl
 

@@ -25,13 +25,13 @@ abbrev μ-loop : tie.MeasureT-loop
 μ-loop numbers out₀ at next₀ i₀ out next i = length numbers - i
 
 loop-holds : tie.Need-loop-holds Inv-loop μ-loop
-loop-holds c = (omega arith, puts-none (c .before .before .args .out .now) (c .before .before .args .at) (omega arith))
+loop-holds c = (omega arith, puts-none (c .before .args .out .now) (c .before .args .at) (omega arith))
 
 mul-put-signed : tie.Need-mul-put-signed Inv-loop μ-loop
 mul-put-signed c = omega arith
 
-shared-slice-read-put-signed : tie.Need-shared-slice-read-put-signed Inv-loop μ-loop
-shared-slice-read-put-signed c = omega arith
+shared-slice-copy-out-put-signed : tie.Need-shared-slice-copy-out-put-signed Inv-loop μ-loop
+shared-slice-copy-out-put-signed c = omega arith
 
 put-signed-requires : tie.Need-put-signed-requires Inv-loop μ-loop
 put-signed-requires c κs = tt
@@ -45,7 +45,7 @@ loop-less c = omega arith
 loop-again : tie.Need-loop-again Inv-loop μ-loop
 loop-again c =
     let at-loop = c .before .before .before .before .before .before in
-    let at-start = at-loop .before .before .before in
+    let at-start = at-loop .before .before in
     let l = at-start .args .numbers .now in
     let f : SFits w64 (getD l (at-loop .loop .i) (pos 0)) = search needs in
     (omega arith, rw (numbers-more l (at-loop .loop .i) (omega arith)) (puts-wider (omega arith) (puts-then (at-loop .loop .inv .1) (rw (back f) at (c .before .before .put-signed .ensures)))))
@@ -55,7 +55,7 @@ same-length c = c .before .loop .inv .1 .put .same-length
 
 returns : tie.Need-returns Inv-loop μ-loop
 returns c =
-    let l = c .before .before .before .before .args .numbers .now in
+    let l = c .before .before .before .args .numbers .now in
     let e : c .before .loop .i ≡ length l = omega arith in
     rw (take-all (length l) l (omega arith)) at (rw e at (c .before .loop .inv .1))
 
@@ -67,7 +67,7 @@ put-numbers-spec =
     μ-loop
     loop-holds
     mul-put-signed
-    shared-slice-read-put-signed
+    shared-slice-copy-out-put-signed
     put-signed-requires
     add-i
     loop-less

@@ -23,7 +23,11 @@ same-length : tie.Need-same-length
 same-length c = search needs
 
 returns : tie.Need-returns
-returns c = ?
+returns c =
+    let at-start = c .before .before .before .before .before .before .before .before .before .before .before .before in
+    let at-put-numbers = c .before .before .before .before .before .before .before in
+    let f : SFits w64 (at-start .args .t .0) = search needs in
+    puts-then (rw (at-put-numbers .before .before .before .numbers-of .ensures) at (at-put-numbers .put-numbers .ensures)) (rw (back f) at (c .before .before .put-signed .ensures))
 
 pub put-state-spec : {M : Type 1} → statement M
 put-state-spec = tie.close (tie.spec numbers-of-requires slice-aggregate-put-numbers put-numbers-requires put-signed-requires same-length returns)
