@@ -100,7 +100,7 @@ pub extern "C" fn gaskeys_air_cp(kelvin: i64) -> ReadingTold
 pub extern "C" fn gaskeys_burn(air: i64, carbon: i64, hydrogen: i64) -> BurnTold
     ensures { λ r. ⌜ r ≡ flatBurn (burnTold document01 (chargeIn (air ∷ carbon ∷ hydrogen ∷ []))) ⌝ }
 {
-    telling::tell_burn(gas::burn(air, carbon, hydrogen))
+    telling::tell_burn(gas::burn(gas::inner::charge_in(&[air, carbon, hydrogen])))
 }
 
 // The gas heat of a charge at a temperature.

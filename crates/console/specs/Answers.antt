@@ -9,9 +9,7 @@ use Rattle.air.specs.Limits.{lookPlaces}
 use Rattle.rows.specs.Rows.{rowsH, rowsPsi, rowsCp}
 use Rattle.text.specs.declared.Whole.{Whole}
 use Rattle.text.specs.declared.Whole.the-variants.{Is, Not}
-use Rattle.fields.specs.declared.Three.{Three}
-use Rattle.fields.specs.declared.Three.the-variants.{Are as AreThree, Not as NotThree}
-use Rattle.fields.specs.Fields.{fieldsOf, holdsReturn, oneOf, threeOf, fourOf}
+use Rattle.fields.specs.Fields.{fieldsOf, holdsReturn, oneOf, isCount, countAll, valuesOf}
 use Rattle.air.specs.Inverse.{looks}
 use Rattle.air.specs.Answers.{airHeatTold, psiTold, cpTold, psiValue, psiInverseTold}
 use Rattle.sheet.specs.Sheet.{Accepted}
@@ -19,7 +17,7 @@ use Rattle.sheet.specs.Answers.{paperSheet, judgeTold, SheetRead}
 use Rattle.sheet.specs.declared.SheetAnswer.{SheetAnswer}
 use Rattle.sheet.specs.declared.SheetAnswer.the-variants.{Good, Refused as SheetRefused}
 use Rattle.gas.specs.declared.Charge.{Charge}
-use Rattle.gas.specs.Burning.{document01, gasOf, chargeIn}
+use Rattle.gas.specs.Burning.{document01, gasOf, chargeNumbers, chargeIn}
 use Rattle.gas.specs.Heat.{gasHeat}
 use Rattle.gas.specs.Answers.{burnTold, heatTold, contentTold, specificTold, temperatureTold}
 use Rattle.marking.specs.Figures.{numbersTold}
@@ -49,9 +47,8 @@ airReply reading (Is number) = airText reading number
 airReply reading Not = misfitText
 
 -- burn A c h
-abbrev pub burnText : Three → List ℕ
-burnText (AreThree air carbon hydrogen) = burntText (burnTold document01 (chargeIn (air ∷ carbon ∷ hydrogen ∷ [])))
-burnText NotThree = misfitText
+abbrev pub burnText : List (List ℕ) → List ℕ
+burnText fs = cond (isCount chargeNumbers (countAll 0 fs)) (burntText (burnTold document01 (chargeIn (valuesOf fs)))) misfitText
 
 -- gas-heat, content and specific-content A c h mK; temperature A c h target; station A c h mK, whose figures are exactly their numbers (`station-exact` of marking)
 abbrev pub gasText : Quantity → List ℕ → Charge → ℤ → List ℕ
@@ -70,8 +67,8 @@ gasReply quantity s Misfit = misfitText
 -- the reply to a request, by its further fields
 abbrev pub replyText : SheetAnswer → List ℕ → Request → List (List ℕ) → List ℕ
 replyText verdict s (OfAir reading) fs = airReply reading (oneOf fs)
-replyText verdict s Burn fs = burnText (threeOf fs)
-replyText verdict s (OfGas quantity) fs = gasReply quantity s (gasAskOf (fourOf fs) verdict)
+replyText verdict s Burn fs = burnText fs
+replyText verdict s (OfGas quantity) fs = gasReply quantity s (gasAskOf fs verdict)
 replyText verdict s Walk fs = walkRequest verdict s fs
 replyText verdict s Mark fs = markRequest fs
 replyText verdict s Unknown fs = unknownText

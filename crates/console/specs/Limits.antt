@@ -1,12 +1,13 @@
 -- The limits of the console (docs/PROGRAM.md), each said here once.
 use Prim.Native.Nat.{ℕ, _+_, _*_}
 use Rattle.air.specs.Limits.{lookPlaces}
+use Rattle.gas.specs.Burning.{chargeNumbers}
 use Rattle.walk.specs.Limits.{mostSteps, mostNumbers}
 use Rattle.wording.specs.Limits.{field, small, looksRoom, courseRoom}
 
--- the numbers of a start: A, c, h and mK
+-- the numbers of a start: those of a charge, and mK
 abbrev pub startNumbers : ℕ
-startNumbers = 4
+startNumbers = chargeNumbers + 1
 
 -- places for the numbers of a request: a start, the steps of the longest walk, and one more, by which too many are known
 abbrev pub heldNumbers : ℕ

@@ -1,12 +1,16 @@
 -- The words that requests begin with (docs/PROGRAM.md), the request that each names, what is answered to a line that is none, and what four numbers and a sheet's verdict
 -- come to.
 use Prim.Native.Nat.{ℕ}
+use mathlib.Core.Bool.{cond}
 use mathlib.Core.List.{List, [], _∷_}
+use lib.IntN.{ℤ, pos}
+use lib.ListN.{getD}
 use Rattle.text.specs.Bytes.{bytesOf}
+use Rattle.fields.specs.Fields.{valuesOf, countAll, isCount}
 use Rattle.fields.specs.Words.{Worded, _names_, namedBy}
-use Rattle.fields.specs.declared.Four.{Four}
-use Rattle.fields.specs.declared.Four.the-variants.{Are, Not}
-use Rattle.gas.specs.Burning.{chargeIn}
+use Rattle.gas.specs.declared.Charge.{Charge}
+use Rattle.gas.specs.Burning.{chargeNumbers, chargeIn}
+use Rattle.console.specs.Limits.{startNumbers}
 use Rattle.sheet.specs.declared.SheetAnswer.{SheetAnswer}
 use Rattle.sheet.specs.declared.SheetAnswer.the-variants.{Good, Refused as SheetRefused}
 use Rattle.console.specs.declared.requests.Request.{Request}
@@ -51,8 +55,12 @@ requests =
 unfoldable pub requestOf : List ℕ → Request
 requestOf = namedBy requests Unknown
 
--- four numbers are a charge and a number to be asked of the sheet; a sheet that was refused when it was read tells its refusal instead
-abbrev pub gasAskOf : Four → SheetAnswer → GasAsk
-gasAskOf (Are air carbon hydrogen number) Good = Of (chargeIn (air ∷ carbon ∷ hydrogen ∷ [])) number
-gasAskOf (Are air carbon hydrogen number) (SheetRefused r) = Refused r
-gasAskOf Not verdict = Misfit
+-- a charge and a number are asked of the sheet; one that was refused when it was read tells its refusal instead
+abbrev pub askOf : Charge → ℤ → SheetAnswer → GasAsk
+askOf ch number Good = Of ch number
+askOf ch number (SheetRefused r) = Refused r
+
+-- the fields of a request on a gas: the numbers of a charge, and one more
+abbrev pub gasAskOf : List (List ℕ) → SheetAnswer → GasAsk
+gasAskOf fs verdict =
+    cond (isCount startNumbers (countAll 0 fs)) (askOf (chargeIn (valuesOf fs)) (getD (valuesOf fs) chargeNumbers (pos 0)) verdict) Misfit

@@ -3,18 +3,16 @@
 -- Assumes nothing.
 use Prim.Native.Nat.{ℕ, _/_}
 use mathlib.Core.Path.{_≡_, refl, sym, ap}
-use mathlib.Core.Bool.{cond}
+use mathlib.Core.Bool.{Bool, true, false, cond}
 use mathlib.Core.List.{List, [], _∷_, _++_}
 use native.Mathlib.Omega.{arith}
 use lib.Dec.{ltb}
-use lib.IntN.{ℤ}
-use lib.ListN.{length, drop}
+use lib.IntN.{ℤ, pos}
+use lib.ListN.{length, drop, getD}
 use Rattle.signed.specs.Zed.{up}
 use Rattle.air.specs.Limits.{lookPlaces}
 use Rattle.walk.specs.Limits.{stepNumbers, mostSteps, mostLooks}
-use Rattle.fields.specs.Fields.{fieldsOf, holdsReturn, fourOf, valuesOf, countAll}
-use Rattle.fields.specs.declared.Four.{Four}
-use Rattle.fields.specs.declared.Four.the-variants.{Are, Not}
+use Rattle.fields.specs.Fields.{fieldsOf, holdsReturn, valuesOf, countAll, isCount}
 use Rattle.refusal.specs.declared.Refusal.{Refusal}
 use Rattle.refusal.specs.Refusals.{Line, _when_, first}
 use Rattle.sheet.specs.Sheet.{Accepted}
@@ -23,7 +21,7 @@ use Rattle.sheet.specs.AnswersLaws.{stopped-by-sheet, accepted-of-told}
 use Rattle.sheet.specs.declared.SheetAnswer.{SheetAnswer}
 use Rattle.sheet.specs.declared.SheetAnswer.the-variants.{Good, Refused}
 use Rattle.gas.specs.declared.Charge.{Charge}
-use Rattle.gas.specs.Burning.{document01, gasOf, chargeIn}
+use Rattle.gas.specs.Burning.{document01, gasOf, chargeNumbers, chargeIn}
 use Rattle.gas.specs.Heat.{gasHeat, contentAbove15, specificContent}
 use Rattle.gas.specs.Answers.{chargeLines, temperatureLines, heatOrder}
 use Rattle.air.specs.Inverse.{unreached, found, looks}
@@ -31,12 +29,14 @@ use Rattle.marking.specs.Figures.{numbersOf}
 use Rattle.walk.specs.Walk.{run, stepsOf, startLines, startState, walked}
 use Rattle.console.specs.declared.requests.Request.{Request}
 use Rattle.console.specs.declared.requests.Request.the-variants.{OfAir, Burn, OfGas, Walk, Mark, Unknown}
+use Rattle.console.specs.declared.requests.GasAsk.the-variants.{Misfit}
 use Rattle.console.specs.declared.requests.Quantity.{Quantity}
 use Rattle.console.specs.declared.requests.Quantity.the-variants.{Heat, Content, Specific, Temperature, Station}
-use Rattle.console.specs.Requests.{requestOf, gasAskOf, returnText}
+use Rattle.console.specs.Limits.{startNumbers}
+use Rattle.console.specs.Requests.{requestOf, askOf, gasAskOf, misfitText, returnText}
 use Rattle.wording.specs.Texts.{refusalText, toldText, foundText, valueText, wholeText, numbersText}
 use Rattle.console.specs.Answers.{gasText, gasReply, replyText, answerFields, lineText, answerOf, judgedAfter, Judged, ofList, ofText, Ready}
-use Rattle.console.specs.Walks.{walkTold, walkText, startOf, walkOf, printedWalk}
+use Rattle.console.specs.Walks.{walkTold, walkText, hasStart, walkOf, printedWalk}
 
 -- a sheet that was found good is accepted, whichever way
 pub judged-good : (s : List ℕ) → Judged Good s → Accepted s
@@ -47,11 +47,14 @@ judged-good s (ofText v) = go (v .read) (v .judged)
     go Good e = accepted-of-told s (sym e)
     go (Refused r) e = absurd (let z : _≡_ {A = ℕ} 0 1 = cc in omega arith)
 
--- so what four numbers and a verdict come to is ready for the sheet
-pub ready : (s : List ℕ) (numbers : Four) (verdict : SheetAnswer) → Judged verdict s → Ready (gasAskOf numbers verdict) s
-ready s (Are a c h n) Good j = judged-good s j
-ready s (Are a c h n) (Refused r) j = tt
-ready s Not verdict j = tt
+-- so what the fields of a request and a verdict come to is ready for the sheet
+pub ready : (s : List ℕ) (fs : List (List ℕ)) (verdict : SheetAnswer) → Judged verdict s → Ready (gasAskOf fs verdict) s
+ready s fs = go (isCount startNumbers (countAll 0 fs))
+  where
+    go : (t : Bool) (v : SheetAnswer) → Judged v s → Ready (cond t (askOf (chargeIn (valuesOf fs)) (getD (valuesOf fs) chargeNumbers (pos 0)) v) Misfit) s
+    go true Good j = judged-good s j
+    go true (Refused r) j = tt
+    go false v j = tt
 
 -- a list that is refused is refused by every call
 module _ (s : List ℕ) (r : Refusal) (e : paperSheet (Refused r) ≡ judgeTold s) where
@@ -76,19 +79,21 @@ module _ (s : List ℕ) (r : Refusal) (e : paperSheet (Refused r) ≡ judgeTold 
     walk-refused numbers =
         sym (stopped-by-sheet s r (startLines document01 ch n (length numbers) mostSteps mostSteps mostLooks) (run document01 s (startState ch n) (stepsOf (length numbers / stepNumbers) numbers)) e)
 
-  asked-refused : (q : Quantity) (numbers : Four) → gasReply q s (gasAskOf numbers (Refused r)) ≡ gasReply q s (gasAskOf numbers Good)
-  asked-refused q (Are a c h n) = gas-refused (chargeIn (a ∷ c ∷ h ∷ [])) n q
-  asked-refused q Not = refl
+  asked-refused : (q : Quantity) (fs : List (List ℕ)) → gasReply q s (gasAskOf fs (Refused r)) ≡ gasReply q s (gasAskOf fs Good)
+  asked-refused q fs = go (isCount startNumbers (countAll 0 fs)) (chargeIn (valuesOf fs)) (getD (valuesOf fs) chargeNumbers (pos 0))
+    where
+      go : (t : Bool) (ch : Charge) (n : ℤ) → gasReply q s (cond t (askOf ch n (Refused r)) Misfit) ≡ gasReply q s (cond t (askOf ch n Good) Misfit)
+      go true ch n = gas-refused ch n q
+      go false ch n = refl
 
-  walk-of-refused : (numbers : Four) (zs : List ℤ) → walkOf (Refused r) s numbers zs ≡ walkOf Good s numbers zs
-  walk-of-refused (Are a c h n) zs = ap walkText (walk-refused (chargeIn (a ∷ c ∷ h ∷ [])) n zs)
-  walk-of-refused Not zs = refl
+  walk-of-refused : (zs : List ℤ) → walkOf (Refused r) s zs ≡ walkOf Good s zs
+  walk-of-refused zs = ap walkText (walk-refused (chargeIn zs) (getD zs chargeNumbers (pos 0)) (drop startNumbers zs))
 
   reply-refused : (q : Request) (fs : List (List ℕ)) → replyText (Refused r) s q fs ≡ replyText Good s q fs
   reply-refused (OfAir reading) fs = refl
   reply-refused Burn fs = refl
-  reply-refused (OfGas q) fs = asked-refused q (fourOf fs)
-  reply-refused Walk fs = walk-of-refused (startOf (countAll 0 fs) (valuesOf fs)) (drop 4 (valuesOf fs))
+  reply-refused (OfGas q) fs = asked-refused q fs
+  reply-refused Walk fs = ap (λ (t : List ℕ). cond (hasStart (countAll 0 fs)) t misfitText) (walk-of-refused (valuesOf fs))
   reply-refused Mark fs = refl
   reply-refused Unknown fs = refl
 

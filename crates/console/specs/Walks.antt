@@ -2,7 +2,7 @@
 -- the number of steps done, the refusal's number, A, c, h, mK; then mK, rest, number of looks and the looks of each step done. The printed walk (document 01, "Examples to hold
 -- against it") is a header, a line for each step done and, where the walk was refused, `refused` and the number.
 use Prim.Native.Nat.{ℕ, suc}
-use mathlib.Core.Bool.{cond}
+use mathlib.Core.Bool.{Bool, false, cond}
 use mathlib.Core.List.{List, [], _∷_, _++_}
 use lib.Dec.{leb}
 use lib.IntN.{ℤ, pos}
@@ -12,15 +12,13 @@ use Rattle.text.specs.Decimal.{decimal, decimalZ}
 use Rattle.walk.specs.Limits.{mostSteps, mostLooks}
 use Rattle.fields.specs.declared.Numbers.{Numbers}
 use Rattle.fields.specs.declared.Numbers.the-variants.{Count, Bad}
-use Rattle.fields.specs.declared.Four.{Four}
-use Rattle.fields.specs.declared.Four.the-variants.{Are, Not}
 use Rattle.fields.specs.Fields.{valuesOf, countAll}
 use Rattle.refusal.specs.Refusals.{Told, gives, refused, numberOf}
 use Rattle.sheet.specs.Answers.{sheetLines}
 use Rattle.sheet.specs.declared.SheetAnswer.{SheetAnswer}
 use Rattle.sheet.specs.declared.SheetAnswer.the-variants.{Good, Refused}
 use Rattle.gas.specs.declared.Charge.{Charge}
-use Rattle.gas.specs.Burning.{document01, chargeIn}
+use Rattle.gas.specs.Burning.{document01, chargeNumbers, chargeIn}
 use Rattle.walk.specs.Step.{Out}
 use Rattle.walk.specs.Walk.{Trace, Course, done, stopped, walked, course, outsOf}
 use Rattle.console.specs.Limits.{startNumbers}
@@ -55,17 +53,16 @@ stepsText layout i (o ∷ os) = stepText layout i (pos (o .state .mk)) (o .rests
 unfoldable pub walkText : Told Trace → List ℕ
 walkText told = toldText courseText (course told) ++ stepsText Line 1 (outsOf told)
 
--- walk A c h mK n1 n2 ..: the first four numbers are the start, those after them the steps
-abbrev pub startOf : Numbers → List ℤ → Four
-startOf (Count n) zs = cond (leb startNumbers n) (Are (getD zs 0 (pos 0)) (getD zs 1 (pos 0)) (getD zs 2 (pos 0)) (getD zs 3 (pos 0))) Not
-startOf Bad zs = Not
+-- walk A c h mK n1 n2 ..: the first numbers are the start, a charge and mK, those after them the steps
+abbrev pub hasStart : Numbers → Bool
+hasStart (Count n) = leb startNumbers n
+hasStart Bad = false
 
-abbrev pub walkOf : SheetAnswer → List ℕ → Four → List ℤ → List ℕ
-walkOf verdict s (Are air carbon hydrogen mk) numbers = walkText (walkTold verdict s (chargeIn (air ∷ carbon ∷ hydrogen ∷ [])) mk numbers)
-walkOf verdict s Not numbers = misfitText
+abbrev pub walkOf : SheetAnswer → List ℕ → List ℤ → List ℕ
+walkOf verdict s zs = walkText (walkTold verdict s (chargeIn zs) (getD zs chargeNumbers (pos 0)) (drop startNumbers zs))
 
 abbrev pub walkRequest : SheetAnswer → List ℕ → List (List ℕ) → List ℕ
-walkRequest verdict s fs = walkOf verdict s (startOf (countAll 0 fs) (valuesOf fs)) (drop startNumbers (valuesOf fs))
+walkRequest verdict s fs = cond (hasStart (countAll 0 fs)) (walkOf verdict s (valuesOf fs)) misfitText
 
 -- ---- the printed walk
 -- the line above the steps

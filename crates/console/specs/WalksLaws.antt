@@ -33,7 +33,8 @@ use Rattle.sheet.specs.AnswersLaws.{past-sheet}
 use Rattle.sheet.specs.declared.SheetAnswer.{SheetAnswer}
 use Rattle.sheet.specs.declared.SheetAnswer.the-variants.{Good, Refused as SheetRefused}
 use Rattle.gas.specs.declared.Charge.{Charge}
-use Rattle.gas.specs.Burning.{Weights, document01, chargeIn}
+use Rattle.gas.specs.Burning.{Weights, document01, chargeIn, chargeNumbers}
+use Rattle.gas.specs.BurningLaws.{charge-alike}
 use Rattle.walk.specs.declared.Step.{Step}
 use Rattle.walk.specs.declared.WalkAnswer.{WalkAnswer}
 use Rattle.walk.specs.declared.WalkAnswer.the-variants.{Refused}
@@ -240,12 +241,12 @@ module _ (verdict : SheetAnswer) (s : List ℕ) (values before later : List ℤ)
 
 module _ (verdict : SheetAnswer) (s : List ℕ) (fs : List (List ℕ)) (before later : List ℤ) (long : length before ≡ heldNumbers) where
   pub walk-kept : (numbers : Numbers) (n : ℕ) → numbers ≡ countAll 0 fs → Stored fs before numbers later → n ≡ heldOf numbers heldNumbers → startNumbers ≤ n
-      → walkText (walkTold verdict s (chargeIn later) (getD later 3 (pos 0)) (take (n - startNumbers) (drop startNumbers later))) ≡ walkRequest verdict s fs
+      → walkText (walkTold verdict s (chargeIn later) (getD later chargeNumbers (pos 0)) (take (n - startNumbers) (drop startNumbers later))) ≡ walkRequest verdict s fs
   walk-kept (Count k) n e st en h =
       let c : k ≡ 0 + length (valuesOf fs) = count-is fs 0 k (sym e) in
       let g : (i : ℕ) → i < startNumbers → getD later i (pos 0) ≡ getD (valuesOf fs) i (pos 0) =
       λ i l. ap (λ (x : List ℤ). getD x i (pos 0)) st ∙ kept-first (pos 0) (valuesOf fs) before i (omega arith) (omega arith) in
-      rw (← e, le-leb startNumbers k (omega arith), en, g 0 (lit< tt), g 1 (lit< tt), g 2 (lit< tt), g 3 (lit< tt))
+      rw (← e, le-leb startNumbers k (omega arith), en, charge-alike later (valuesOf fs) (λ i l. g i (omega arith)), g chargeNumbers (lit< tt))
       (ap walkText (steps-alike verdict s (valuesOf fs) before later heldNumbers long (lit< tt) _ _ k (omega arith) (omega arith) st))
   walk-kept Bad n e st en h = absurd (omega arith)
 

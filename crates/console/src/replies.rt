@@ -7,7 +7,6 @@ use crate::requests::Quantity;
 use crate::requests::Request;
 use crate::walks;
 use air::Millikelvin;
-use fields::Three;
 use gas::BurnAnswer;
 use gas::Charge;
 use gas::Heat;
@@ -110,13 +109,14 @@ fn put_burnt(answer: BurnAnswer, out: &mut [u8], at: usize) -> usize
 }
 
 // burn A c h
-fn reply_burn(numbers: Three, out: &mut [u8], at: usize) -> usize
-    ensures { λ r. ⌜ Puts replyRoom (burnText numbers) (now (out .entry)) at r (now (out .exit)) ⌝ }
+fn reply_burn(line: &[u8], from: usize, out: &mut [u8], at: usize) -> usize
+    ensures { λ r. ⌜ Puts replyRoom (burnText (fieldsFrom (now (line .entry)) from)) (now (out .entry)) at r (now (out .exit)) ⌝ }
 {
-    match numbers {
-        Three::Are(air, carbon, hydrogen) => put_burnt(gas::burn(air, carbon, hydrogen), out, at),
-        Three::Not => put_misfit(out, at),
+    let mut numbers = [0i64; gas::inner::CHARGE_NUMBERS];
+    if !fields::read_exactly(line, from, &mut numbers) {
+        return put_misfit(out, at);
     }
+    put_burnt(gas::burn(gas::inner::charge_in(&numbers)), out, at)
 }
 
 // The temperature of a gas heat, asked with eleven places for looks.
@@ -211,9 +211,9 @@ pub(crate) fn reply(
             let number = fields::read_one(line, from);
             reply_air(reading, number, air, psis, cps, out, at)
         }
-        Request::Burn => reply_burn(fields::read_three(line, from), out, at),
+        Request::Burn => reply_burn(line, from, out, at),
         Request::OfGas(quantity) => {
-            let asked = requests::gas_ask_of(fields::read_four(line, from), verdict);
+            let asked = requests::gas_ask_of(line, from, verdict);
             reply_gas(quantity, asked, sheet, air, out, at)
         }
         Request::Walk => walks::reply_walk(line, from, verdict, sheet, air, out, at),

@@ -1,11 +1,12 @@
 // The words that requests begin with, and what their numbers and the sheet's verdict come to.
-use fields::Four;
+use crate::walks;
 use gas::Charge;
 use refusal::Refusal;
 use sheet::SheetAnswer;
 ghost use mathlib.Core.Path.{_≡_};
 ghost use lib.ListN.{length};
 ghost use Rattle.fields.specs.Words.{positionOf, wordsIn, namedAt, NoneBelow};
+ghost use Rattle.fields.specs.Fields.{fieldsFrom};
 ghost use Rattle.console.specs.Requests.{requests, requestOf, gasAskOf};
 
 // What a line asks for.
@@ -92,24 +93,28 @@ pub(crate) fn request_of(word: &[u8]) -> Request
     request_at(position(word))
 }
 
-// A charge with a fourth number, to be asked of a sheet that was judged; the refusal that the sheet was given when it was read; or fields of another form.
+// A charge with a number, to be asked of a sheet that was judged; the refusal that the sheet was given when it was read; or fields of another form.
 pub enum GasAsk {
     Of(Charge, i64),
     Refused(Refusal),
     Misfit,
 }
 
-// What four numbers and the sheet's verdict come to.
-pub(crate) fn gas_ask_of(numbers: Four, verdict: SheetAnswer) -> GasAsk
-    ensures { λ r. ⌜ r ≡ gasAskOf numbers verdict ⌝ }
+// What the fields from `from` on, a charge's numbers and one more, and the sheet's verdict come to.
+pub(crate) fn gas_ask_of(line: &[u8], from: usize, verdict: SheetAnswer) -> GasAsk
+    ensures { λ r. ⌜ r ≡ gasAskOf (fieldsFrom (now (line .entry)) from) verdict ⌝ }
 {
-    match numbers {
-        Four::Are(air, carbon, hydrogen, number) => match verdict {
-            SheetAnswer::Good => {
-                GasAsk::Of(gas::inner::charge_in(&[air, carbon, hydrogen]), number)
-            }
-            SheetAnswer::Refused(refusal) => GasAsk::Refused(refusal),
-        },
-        Four::Not => GasAsk::Misfit,
+    let mut numbers = [0i64; walks::START_NUMBERS];
+    if !fields::read_exactly(line, from, &mut numbers) {
+        return GasAsk::Misfit;
+    }
+    match verdict {
+        SheetAnswer::Good => {
+            GasAsk::Of(
+                gas::inner::charge_in(&numbers),
+                numbers[gas::inner::CHARGE_NUMBERS],
+            )
+        }
+        SheetAnswer::Refused(refusal) => GasAsk::Refused(refusal),
     }
 }

@@ -27,7 +27,7 @@ pub enum Layout {
 }
 
 // the numbers of a start: A, c, h and mK
-const START_NUMBERS: usize = 4;
+pub(crate) const START_NUMBERS: usize = gas::inner::CHARGE_NUMBERS + 1;
 // places for a start, the steps of the longest walk, and one number more, by which too many are known
 const HELD_NUMBERS: usize = START_NUMBERS + walk::MOST_NUMBERS + 1;
 
@@ -265,7 +265,7 @@ pub(crate) fn reply_walk(
         return replies::put_misfit(out, at);
     }
     let start = gas::inner::charge_in(&list);
-    let t = Millikelvin(list[3]);
+    let t = Millikelvin(list[gas::inner::CHARGE_NUMBERS]);
     show(
         Layout::Line,
         start,

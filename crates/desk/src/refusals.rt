@@ -34,7 +34,7 @@ fn say_walk(numbers: &[i64], end: usize, sheet: &[u32], air: &[u32; rows::ROWS])
     requires { ⌜ (length (now numbers) ≡ keptNumbers) × (stepNumbers ≤ end) × (end ≤ keptNumbers) × Accepted (now sheet) × (now air ≡ rowsH) ⌝ }
 {
     let start = gas::inner::charge_in(numbers);
-    let t = Millikelvin(numbers[3]);
+    let t = Millikelvin(numbers[gas::inner::CHARGE_NUMBERS]);
     match course(start, t, &numbers[walk::STEP_NUMBERS..end], sheet, air) {
         WalkAnswer::Done(_, _, _) => (),
         WalkAnswer::Stopped(done, number, _, _) => say_step(done as u64 + 1, number),

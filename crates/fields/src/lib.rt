@@ -4,7 +4,7 @@ ghost use mathlib.Core.Path.{_≡_};
 ghost use Prim.Native.Nat.{_+_};
 ghost use lib.ListN.{length, set, drop};
 ghost use Rattle.fields.specs.Words.{positionOf};
-ghost use Rattle.fields.specs.Fields.{spanOf, fieldsOf, fieldsFrom, holdsReturn, countAll, Stored, heldOf, isCount, oneOf, twoOf, threeOf, fourOf};
+ghost use Rattle.fields.specs.Fields.{spanOf, fieldsOf, fieldsFrom, holdsReturn, countAll, Stored, heldOf, isCount, oneOf, twoOf, fourOf};
 use text::Whole;
 
 // How many numbers the fields are, or that one of them is none.
@@ -16,12 +16,6 @@ pub enum Numbers {
 // Two numbers and no more.
 pub enum Two {
     Are(i64, i64),
-    Not,
-}
-
-// Three numbers and no more.
-pub enum Three {
-    Are(i64, i64, i64),
     Not,
 }
 
@@ -107,6 +101,15 @@ fn counted(n: Numbers, k: usize) -> bool
     }
 }
 
+// Whether the fields from `from` on are exactly as many numbers as the list has places; then it holds them.
+pub fn read_exactly(line: &[u8], from: usize, list: &mut [i64]) -> bool
+    ensures { λ r. ⌜ r ≡ isCount (length (now (list .entry))) (countAll 0 (fieldsFrom (now (line .entry)) from)) ⌝ }
+    ensures { λ r. ⌜ Stored (fieldsFrom (now (line .entry)) from) (now (list .entry)) (countAll 0 (fieldsFrom (now (line .entry)) from)) (now (list .exit)) ⌝ }
+{
+    let places = list.len();
+    counted(read_numbers(line, from, list), places)
+}
+
 // The one number that the fields from `from` on are.
 pub fn read_one(line: &[u8], from: usize) -> Whole
     ensures { λ r. ⌜ r ≡ oneOf (fieldsFrom (now (line .entry)) from) ⌝ }
@@ -130,19 +133,6 @@ pub fn read_two(line: &[u8], from: usize) -> Two
         Two::Are(list[0], list[1])
     } else {
         Two::Not
-    }
-}
-
-// The three numbers that the fields from `from` on are.
-pub fn read_three(line: &[u8], from: usize) -> Three
-    ensures { λ r. ⌜ r ≡ threeOf (fieldsFrom (now (line .entry)) from) ⌝ }
-{
-    let mut list = [0i64; 3];
-    let n = read_numbers(line, from, &mut list);
-    if counted(n, 3) {
-        Three::Are(list[0], list[1], list[2])
-    } else {
-        Three::Not
     }
 }
 

@@ -7,6 +7,7 @@ use lib.IntN.{pos}
 use Rattle.text.specs.Bytes.{bytesOf}
 use Rattle.text.specs.Decimal.{decimal}
 use Rattle.sheet.specs.declared.SheetAnswer.{SheetAnswer}
+use Rattle.gas.specs.Burning.{chargeIn}
 use Rattle.console.specs.Walks.{walkTold, printedWalk}
 
 abbrev pub usageText : List ℕ
@@ -19,7 +20,7 @@ usageText =
 -- document 01's walk: A 1, no fuel, from 200,000 mK, two steps of heat alone
 abbrev pub examplePage : SheetAnswer → List ℕ → List ℕ
 examplePage verdict s =
-    (printedWalk (walkTold verdict s (record { air = pos 1; carbon = pos 0; hydrogen = pos 0 }) (pos 200000)
+    (printedWalk (walkTold verdict s (chargeIn (pos 1 ∷ pos 0 ∷ pos 0 ∷ [])) (pos 200000)
     (pos 0 ∷ pos 0 ∷ pos 0 ∷ pos 1200000001 ∷ pos 0 ∷ pos 0 ∷ pos 0 ∷ pos 2400000 ∷ [])) ++ bytesOf "\n") ++ usageText
 
 abbrev pub rowReturned : ℕ → List ℕ

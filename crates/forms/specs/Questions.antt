@@ -8,7 +8,7 @@ use lib.ListN.{drop, getD}
 use Rattle.fields.specs.Fields.{holdsReturn, fieldsOf, fourOf}
 use Rattle.fields.specs.declared.Four.{Four}
 use Rattle.fields.specs.declared.Four.the-variants.{Are, Not}
-use Rattle.gas.specs.Burning.{chargeIn}
+use Rattle.gas.specs.Burning.{chargeNumbers, chargeIn}
 use Rattle.sheet.specs.declared.SheetAnswer.{SheetAnswer}
 use Rattle.walk.specs.Limits.{stepNumbers}
 use Rattle.console.specs.Walks.{walkTold, printedWalk}
@@ -36,4 +36,4 @@ readFrom k (line ∷ lines) = cond (holdsReturn line) (Returned (suc k)) (onFour
 
 -- the printed walk of a question's numbers: the first line is the start, the lines after it are the steps
 abbrev pub walkPage : SheetAnswer → List ℕ → List ℤ → List ℕ
-walkPage verdict s numbers = printedWalk (walkTold verdict s (chargeIn numbers) (getD numbers 3 (pos 0)) (drop stepNumbers numbers))
+walkPage verdict s numbers = printedWalk (walkTold verdict s (chargeIn numbers) (getD numbers chargeNumbers (pos 0)) (drop stepNumbers numbers))

@@ -1,6 +1,5 @@
 // What is printed whole, and the lines on standard error (specs/Pages.antt).
 use air::Millikelvin;
-use gas::Charge;
 use sheet::SheetAnswer;
 ghost use Prim.Native.Nat.{_+_, _≤_};
 ghost use mathlib.Core.Path.{_≡_};
@@ -49,11 +48,7 @@ pub fn put_example(
     ensures { λ r. ⌜ Stands (examplePage verdict (now (sheet .entry))) (now (out .entry)) 0 r (now (out .exit)) ⌝ }
 {
     let steps = [0i64, 0, 0, 1_200_000_001, 0, 0, 0, 2_400_000];
-    let start = Charge {
-        air: 1,
-        carbon: 0,
-        hydrogen: 0,
-    };
+    let start = gas::inner::charge_in(&[1i64, 0, 0]);
     let next = console::inner::print_judged(
         start,
         Millikelvin(200_000),

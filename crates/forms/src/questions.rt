@@ -100,7 +100,7 @@ pub fn put_page(
     ensures { λ r. ⌜ Stands (questionPage verdict (now (sheet .entry)) lines (now (numbers .entry))) (now (out .entry)) at r (now (out .exit)) ⌝ }
 {
     let start = gas::inner::charge_in(numbers);
-    let t = Millikelvin(numbers[3]);
+    let t = Millikelvin(numbers[gas::inner::CHARGE_NUMBERS]);
     let end = walk::STEP_NUMBERS * kept(lines);
     console::inner::print_judged(
         start,

@@ -2,7 +2,7 @@
 -- of 100 g. The weights and limits are a parameter of every definition, and document 01's are the one instance.
 use mathlib.Core.Path.{_≡_}
 use mathlib.Core.Bool.{Bool, true, _||_}
-use mathlib.Core.List.{List}
+use mathlib.Core.List.{List, [], _∷_}
 use Prim.Native.Nat.{ℕ, _+_, _*_, _/_, _<_, _≤_}
 use lib.IntN.{ℤ, pos, _-ℤ_}
 use lib.ListN.{getD}
@@ -44,13 +44,23 @@ pub record Sound (w : Weights) : Type 0 where
   pub whole : w .airO2 + w .airN2 + w .airAr ≡ w .airPart
   pub thin : 4 * w .airO2 < w .airPart
 
--- the charge of its numbers, A, c, h: what reads a charge goes through it
+-- a charge is handed in and shown as three numbers, A, c, h: how many, the charge of its numbers, and the numbers of a charge
+abbrev pub chargeNumbers : ℕ
+chargeNumbers = 3
+
 abbrev pub chargeIn : List ℤ → Charge
 chargeIn numbers = record { air = getD numbers 0 (pos 0); carbon = getD numbers 1 (pos 0); hydrogen = getD numbers 2 (pos 0) }
+
+abbrev pub numbersOfCharge : Charge → List ℤ
+numbersOfCharge ch = ch .air ∷ ch .carbon ∷ ch .hydrogen ∷ []
 
 -- a charge is A parts of air, c moles of carbon, h moles of hydrogen atoms
 abbrev pub gasOf : Charge → Gas
 gasOf ch = record { air = up (ch .air); carbon = up (ch .carbon); hydrogen = up (ch .hydrogen) }
+
+-- and the charge that a gas is
+abbrev pub chargeOf : Gas → Charge
+chargeOf g = record { air = pos (g .air); carbon = pos (g .carbon); hydrogen = pos (g .hydrogen) }
 
 -- 1 ≤ A ≤ 100,000; c and h from 0 to 50,000: whether A, c or h is outside its limit
 unfoldable pub beyond : Weights → Charge → Bool

@@ -2,10 +2,12 @@
 use borrow.Author.Tests.{not-false}
 use mathlib.Core.Path.{_≡_, refl, ap}
 use mathlib.Core.Bool.{true, false, not}
-use Prim.Native.Nat.{ℕ, _+_, _*_, _/_}
+use mathlib.Core.List.{List, [], _∷_}
+use Prim.Native.Nat.{ℕ, _+_, _*_, _/_, _<_, _≤_}
 use native.Mathlib.Omega.{arith}
 use lib.Dec.{lit<}
-use lib.IntN.{pos, _-ℤ_}
+use lib.IntN.{ℤ, pos, _-ℤ_}
+use lib.ListN.{length, take, getD}
 use Rattle.signed.specs.Zed.{up, In, inZ, in-range, is-diff, dn-none, leZ-true, apart, zed}
 use Rattle.refusal.specs.BoolLaws.{neither, both-hold}
 use Rattle.refusal.specs.Refusals.{gives, first, Clear, clear, none}
@@ -13,9 +15,31 @@ use Rattle.gas.specs.declared.Charge.{Charge}
 use Rattle.gas.specs.declared.Gas.{Gas}
 use Rattle.gas.specs.declared.Products.{Products}
 use Rattle.gas.specs.declared.BurnAnswer.the-variants.{Is as Burnt}
+use Rattle.gas.specs.Burning.{chargeNumbers, chargeIn, numbersOfCharge, chargeOf}
 use Rattle.gas.specs.Burning.{Weights, document01, Sound, gasOf, beyond, Limits, h2oWeight, fuelMass, oxygenUsed, lean, Burns, products, totalMass, Balanced}
 use Rattle.gas.specs.Answers.{chargeLines, paperBurn, burnTold}
 use Rattle.refusal.specs.OrdersLaws.{clear-order, given}
+
+-- ---- a charge and its numbers: each is had back from the other
+pub charge-back : (ch : Charge) → chargeIn (numbersOfCharge ch) ≡ ch
+charge-back ch = refl
+
+pub charge-count : (ch : Charge) → length (numbersOfCharge ch) ≡ chargeNumbers
+charge-count ch = refl
+
+pub charge-numbers-back : (l : List ℤ) → chargeNumbers ≤ length l → numbersOfCharge (chargeIn l) ≡ take chargeNumbers l
+charge-numbers-back [] h = absurd (omega arith)
+charge-numbers-back (a ∷ []) h = absurd (omega arith)
+charge-numbers-back (a ∷ b ∷ []) h = absurd (omega arith)
+charge-numbers-back (a ∷ b ∷ c ∷ l) h = refl
+
+-- lists whose first numbers are the same are the same charge
+pub charge-alike : (l m : List ℤ) → ((i : ℕ) → i < chargeNumbers → getD l i (pos 0) ≡ getD m i (pos 0)) → chargeIn l ≡ chargeIn m
+charge-alike l m g = rw (g 0 (lit< tt), g 1 (lit< tt), g 2 (lit< tt)) refl
+
+-- and a gas is had back from the charge that it is
+pub gas-back : (g : Gas) → gasOf (chargeOf g) ≡ g
+gas-back g = refl
 
 -- ---- the limits of a charge
 -- each number of a charge that is not beyond its limits

@@ -2,10 +2,12 @@
 -- same mass as one, so in any order. Assumes nothing.
 use mathlib.Core.Path.{_≡_, refl, sym, ap, ap₂, _∙_}
 use mathlib.Core.Bool.{false}
+use mathlib.Core.List.{List, [], _∷_}
 use Prim.Native.Nat.{ℕ, _+_, _*_, _≤_}
 use native.Mathlib.Nat.{add-zero}
 use native.Mathlib.Omega.{arith}
 use lib.IntN.{ℤ, pos, _+ℤ_}
+use lib.ListN.{length, take}
 use lib.Signed.{ltZ}
 use Rattle.signed.specs.Zed.{up, dn, apart, is-pos, is-self, is-add, dn-none, same-by, ltZ-false, zed}
 use Rattle.refusal.specs.BoolLaws.{neither}
@@ -13,7 +15,19 @@ use Rattle.gas.specs.declared.Fuel.{Fuel}
 use Rattle.gas.specs.declared.Gas.{Gas}
 use Rattle.gas.specs.Burning.{Weights, document01, gasOf, beyond, Limits, totalMass}
 use Rattle.gas.specs.BurningLaws.{limits-of}
-use Rattle.gas.specs.Fuel.{added, withFuel, takesAway, wrongFuel, massAdded, noFuel, both}
+use Rattle.gas.specs.Fuel.{fuelNumbers, fuelIn, numbersOfFuel, added, withFuel, takesAway, wrongFuel, massAdded, noFuel, both}
+
+-- ---- a fuel and its numbers: each is had back from the other
+pub fuel-back : (f : Fuel) → fuelIn (numbersOfFuel f) ≡ f
+fuel-back f = refl
+
+pub fuel-count : (f : Fuel) → length (numbersOfFuel f) ≡ fuelNumbers
+fuel-count f = refl
+
+pub fuel-numbers-back : (l : List ℤ) → fuelNumbers ≤ length l → numbersOfFuel (fuelIn l) ≡ take fuelNumbers l
+fuel-numbers-back [] h = absurd (omega arith)
+fuel-numbers-back (a ∷ []) h = absurd (omega arith)
+fuel-numbers-back (a ∷ b ∷ l) h = refl
 
 -- ---- numbers that are not below zero
 up-sum : (x y : ℤ) → dn x ≡ 0 → dn y ≡ 0 → up (x +ℤ y) ≡ up x + up y

@@ -22,7 +22,7 @@ ghost use Rattle.rows.specs.Rows.{rowsH};
 ghost use Rattle.refusal.specs.Refusals.{first};
 ghost use Rattle.air.specs.Limits.{lookPlaces, coldest, hottest};
 ghost use Rattle.sheet.specs.Sheet.{Accepted};
-ghost use Rattle.gas.specs.Burning.{document01, chargeIn, gasOf, beyond as Burning·beyond, Limits, lean as Burning·lean, Burns, fuelMass, totalMass};
+ghost use Rattle.gas.specs.Burning.{document01, chargeNumbers, chargeIn, numbersOfCharge, gasOf, chargeOf, beyond as Burning·beyond, Limits, lean as Burning·lean, Burns, fuelMass, totalMass};
 ghost use Rattle.gas.specs.Heat.{gasHeat, contentAbove15, specificContent};
 ghost use Rattle.gas.specs.Answers.{paperGas, paperHeat, paperSpecific, chargeLines, temperatureLines, heatTold, contentTold, specificTold, Inverted, Temperature};
 
@@ -32,9 +32,12 @@ pub enum Admitted {
     Refused(Refusal),
 }
 
+// numbers of a charge
+pub const CHARGE_NUMBERS: usize = 3;
+
 // The charge of its numbers: A, c, h.
 pub fn charge_in(numbers: &[i64]) -> Charge
-    requires { ⌜ 3 ≤ length (now numbers) ⌝ }
+    requires { ⌜ chargeNumbers ≤ length (now numbers) ⌝ }
     ensures { λ r. ⌜ r ≡ chargeIn (now (numbers .entry)) ⌝ }
 {
     Charge {
@@ -42,6 +45,13 @@ pub fn charge_in(numbers: &[i64]) -> Charge
         carbon: numbers[1],
         hydrogen: numbers[2],
     }
+}
+
+// The numbers of a charge: A, c, h.
+pub fn numbers_of(charge: Charge) -> [i64; CHARGE_NUMBERS]
+    ensures { λ r. ⌜ r ≡ numbersOfCharge charge ⌝ }
+{
+    [charge.air, charge.carbon, charge.hydrogen]
 }
 
 // Whether A, c or h is outside its limit.
@@ -66,6 +76,18 @@ pub(crate) fn gas_of(charge: Charge) -> Gas
         air: signed::to_u64(charge.air),
         carbon: signed::to_u64(charge.carbon),
         hydrogen: signed::to_u64(charge.hydrogen),
+    }
+}
+
+// The charge that a gas is, as it comes back.
+pub fn charge_of(gas: Gas) -> Charge
+    requires { ⌜ Limits document01 gas ⌝ }
+    ensures { λ r. ⌜ r ≡ chargeOf gas ⌝ }
+{
+    Charge {
+        air: signed::of_u64(gas.air),
+        carbon: signed::of_u64(gas.carbon),
+        hydrogen: signed::of_u64(gas.hydrogen),
     }
 }
 

@@ -85,14 +85,9 @@ pub const LIMIT: u32 = 4;
 pub const RICH: u32 = 5;
 
 // What a charge burns to.
-pub fn burn(air: i64, carbon: i64, hydrogen: i64) -> BurnAnswer
-    ensures { λ r. ⌜ paperBurn r ≡ burnTold document01 (record { air = air; carbon = carbon; hydrogen = hydrogen }) ⌝ }
+pub fn burn(charge: Charge) -> BurnAnswer
+    ensures { λ r. ⌜ paperBurn r ≡ burnTold document01 charge ⌝ }
 {
-    let charge = Charge {
-        air: air,
-        carbon: carbon,
-        hydrogen: hydrogen,
-    };
     match inner::admit(charge) {
         Admitted::Burning(gas) => BurnAnswer::Is(burning::burnt(gas)),
         Admitted::Refused(r) => BurnAnswer::Refused(r),

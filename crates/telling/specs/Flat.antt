@@ -1,6 +1,7 @@
 -- What a call tells, as one struct by value: 0 or the refusal's number, the row and whether there is one, the values of the answer, and 0 in every field that a case does not
 -- have. Each definition takes what the entry of the same name tells (`Told`, in the paper's numbers). Definitions only.
 use mathlib.Core.Bool.{Bool, false, cond}
+use mathlib.Core.List.{[]}
 use Prim.Native.Nat.{ℕ}
 use lib.Dec.{eqb}
 use lib.IntN.{ℤ, pos}
@@ -12,6 +13,7 @@ use Rattle.refusal.specs.Refusals.{Told, gives, refused, numberOf}
 use Rattle.air.specs.Inverse.{Found}
 use Rattle.gas.specs.declared.Charge.{Charge}
 use Rattle.gas.specs.declared.Products.{Products}
+use Rattle.gas.specs.Burning.{chargeIn}
 use Rattle.walk.specs.Walk.{Course, done, stopped}
 use Rattle.marking.specs.declared.Typed.{Typed}
 use Rattle.marking.specs.declared.Typed.the-variants.{Kelvins, Content, Blank}
@@ -84,13 +86,17 @@ flatTemperature t = record { refusal = number t; row = row t; placed = placed t;
 abbrev pub flatPsi : Told Found → PsiTold
 flatPsi t = record { refusal = number t; row = row t; placed = placed t; millikelvin = valuesOr notFound t .mk; rest = up (valuesOr notFound t .left) }
 
--- a walk that began: 0 or the number of the refused step, the steps done, the charge and the temperature
-abbrev pub flatBegun : ℕ → ℕ → Charge → ℤ → WalkTold
-flatBegun n steps ch mk = record { refusal = n; row = 0; placed = 0; begun = 1; steps = steps; air = ch .air; carbon = ch .carbon; hydrogen = ch .hydrogen; millikelvin = mk }
+-- a walk: its refusal, whether it began, the steps done, the charge and the temperature
+abbrev pub flatCourse : ℕ → ℕ → ℕ → ℕ → ℕ → Charge → ℤ → WalkTold
+flatCourse n r p begun steps ch mk = record { refusal = n; row = r; placed = p; begun = begun; steps = steps; air = ch .air; carbon = ch .carbon; hydrogen = ch .hydrogen; millikelvin = mk }
 
--- one that was refused at its start
+-- one that began: 0 or the number of the refused step
+abbrev pub flatBegun : ℕ → ℕ → Charge → ℤ → WalkTold
+flatBegun n steps ch mk = flatCourse n 0 0 1 steps ch mk
+
+-- one that was refused at its start: 0 in every field of the charge
 abbrev pub flatUnbegun : ℕ → ℕ → ℕ → WalkTold
-flatUnbegun n r p = record { refusal = n; row = r; placed = p; begun = 0; steps = 0; air = pos 0; carbon = pos 0; hydrogen = pos 0; millikelvin = pos 0 }
+flatUnbegun n r p = flatCourse n r p 0 0 (chargeIn []) (pos 0)
 
 abbrev pub flatWalk : Told Course → WalkTold
 flatWalk (gives (done steps ch mk)) = flatBegun 0 steps ch mk

@@ -22,7 +22,7 @@ ghost use Rattle.gas.specs.Answers.{paperBurn, paperHeat, paperSpecific, paperT
 ghost use Rattle.walk.specs.Walk.{paperWalk};
 ghost use Rattle.marking.specs.Marking.{paperMark};
 ghost use Rattle.marking.specs.Figures.{paperStation};
-ghost use Rattle.telling.specs.Flat.{rowIn, placedIn, flatSheet, flatReading, flatBurn, flatHeat, flatTemperature, flatPsi, flatWalk, flatBegun, flatStation, flatMark, typedOf};
+ghost use Rattle.telling.specs.Flat.{rowIn, placedIn, flatSheet, flatReading, flatBurn, flatHeat, flatTemperature, flatPsi, flatWalk, flatCourse, flatBegun, flatStation, flatMark, typedOf};
 
 // What the calls that read, judge or give a sheet tell.
 #[repr(C)]
@@ -312,21 +312,33 @@ pub fn tell_psi(answer: PsiAnswer) -> PsiTold
     }
 }
 
-// A walk that began: 0 or the number of the refused step, the steps done, the charge and the temperature.
-fn tell_begun(refusal: u32, steps: u32, charge: Charge, t: Millikelvin) -> WalkTold
-    ensures { λ r. ⌜ r ≡ flatBegun refusal steps charge (t .0) ⌝ }
+// A walk as a struct: its refusal, whether it began, the steps done, the charge and the temperature.
+fn tell_course(told: SheetTold, begun: u32, steps: u32, charge: Charge, t: Millikelvin) -> WalkTold
+    ensures { λ r. ⌜ r ≡ flatCourse (told .refusal) (told .row) (told .placed) begun steps charge (t .0) ⌝ }
 {
     WalkTold {
-        refusal,
-        row: NO_ROW,
-        placed: 0,
-        begun: 1,
+        refusal: told.refusal,
+        row: told.row,
+        placed: told.placed,
+        begun,
         steps,
         air: charge.air,
         carbon: charge.carbon,
         hydrogen: charge.hydrogen,
         millikelvin: t.0,
     }
+}
+
+// A walk that began: 0 or the number of the refused step, the steps done, the charge and the temperature.
+fn tell_begun(refusal: u32, steps: u32, charge: Charge, t: Millikelvin) -> WalkTold
+    ensures { λ r. ⌜ r ≡ flatBegun refusal steps charge (t .0) ⌝ }
+{
+    let told = SheetTold {
+        refusal,
+        row: NO_ROW,
+        placed: 0,
+    };
+    tell_course(told, 1, steps, charge, t)
 }
 
 // A walk done, stopped or refused at its start.
@@ -337,18 +349,8 @@ pub fn tell_walk(answer: WalkAnswer) -> WalkTold
         WalkAnswer::Done(steps, charge, t) => tell_begun(0, steps, charge, t),
         WalkAnswer::Stopped(steps, number, charge, t) => tell_begun(number, steps, charge, t),
         WalkAnswer::Refused(r) => {
-            let told = tell_refusal(r);
-            WalkTold {
-                refusal: told.refusal,
-                row: told.row,
-                placed: told.placed,
-                begun: 0,
-                steps: 0,
-                air: 0,
-                carbon: 0,
-                hydrogen: 0,
-                millikelvin: 0,
-            }
+            let none = gas::inner::charge_in(&[0i64; gas::inner::CHARGE_NUMBERS]);
+            tell_course(tell_refusal(r), 0, 0, none, Millikelvin(0))
         }
     }
 }

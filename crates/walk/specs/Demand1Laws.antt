@@ -13,7 +13,7 @@ use Rattle.refusal.specs.BoolLaws.{by-bool}
 use Rattle.refusal.specs.RefusalsLaws.{refusal-given, demand-1}
 use Rattle.refusal.specs.OrdersLaws.{one-order}
 use Rattle.gas.specs.declared.Charge.{Charge}
-use Rattle.gas.specs.Burning.{Weights}
+use Rattle.gas.specs.Burning.{Weights, chargeOf}
 use Rattle.gas.specs.Heat.{gasHeat}
 use Rattle.air.specs.Inverse.{unreached}
 use Rattle.walk.specs.Limits.{stepNumbers}
@@ -22,7 +22,7 @@ use Rattle.walk.specs.declared.Step.{Step}
 use Rattle.walk.specs.Step.{State, Asked, Out, held, askLines, askedOf, asked, outOf, sought, judge, stepOrder}
 use Rattle.walk.specs.Lists.{Lists}
 use Rattle.walk.specs.Walk.{Trace, End, ended, cut, more, onward, run, noStep, StoppedAt, FirstRefused, stepsOf, startLines, startState, walked}
-use Rattle.walk.specs.Walk.{walkedInto, Course, done, stopped, chargeOf, courseOf, course, paperWalk, Walks}
+use Rattle.walk.specs.Walk.{walkedInto, Course, done, stopped, courseOf, course, paperWalk, Walks}
 
 -- ---- a step
 module _ (w : Weights) (s : List ℕ) (st : State) (p : Step) where

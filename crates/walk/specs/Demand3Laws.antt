@@ -20,7 +20,7 @@ use Rattle.gas.specs.declared.Gas.{Gas}
 use Rattle.sheet.specs.Sheet.{Accepted}
 use Rattle.sheet.specs.Answers.{sheetLines}
 use Rattle.sheet.specs.AnswersLaws.{accepted-of-told}
-use Rattle.gas.specs.Burning.{Weights, Sound, document01}
+use Rattle.gas.specs.Burning.{Weights, Sound, document01, chargeOf}
 use Rattle.gas.specs.BurningLaws.{document01-sound}
 use Rattle.gas.specs.FuelLaws.{limits-with}
 use Rattle.gas.specs.HeatLaws.{gas-rises}
@@ -30,7 +30,7 @@ use Rattle.walk.specs.declared.WalkAnswer.{WalkAnswer}
 use Rattle.walk.specs.Lists.{Lists, laid}
 use Rattle.walk.specs.declared.Step.{Step}
 use Rattle.walk.specs.Step.{State, Asked, Out, held, newGas, askedOf, outOf}
-use Rattle.walk.specs.Walk.{Trace, End, ended, cut, run, noStep, stepsOf, startLines, startState, walked, walkedInto, courseOf, course, chargeOf}
+use Rattle.walk.specs.Walk.{Trace, End, ended, cut, run, noStep, stepsOf, startLines, startState, walked, walkedInto, courseOf, course}
 use Rattle.walk.specs.Walk.{paperWalk, temperaturesOf, restsOf, looksOf, filled, Walks, WalkPromise}
 use Rattle.walk.specs.Ledger.{total, ledger, dearest, sumOf, lastOf}
 use Rattle.walk.specs.RunLaws.{StepDone, step-done, of-run}

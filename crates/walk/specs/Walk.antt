@@ -12,8 +12,7 @@ use Rattle.refusal.specs.Refusals.{Told, gives, refused, Line, _when_, first, l
 use Rattle.air.specs.Limits.{lookPlaces}
 use Rattle.air.specs.Halving.{eleven}
 use Rattle.gas.specs.declared.Charge.{Charge}
-use Rattle.gas.specs.declared.Gas.{Gas}
-use Rattle.gas.specs.Burning.{Weights, document01, gasOf}
+use Rattle.gas.specs.Burning.{Weights, document01, gasOf, chargeOf}
 use Rattle.gas.specs.Fuel.{noFuel}
 use Rattle.gas.specs.Answers.{chargeLines, temperatureLines}
 use Rattle.walk.specs.Limits.{stepNumbers, mostNumbers}
@@ -99,9 +98,6 @@ walkedInto lent lines w s ch mk numbers = walked lines w s ch mk numbers (length
 pub data Course : Type 0 where
   done : ℕ → Charge → ℤ → Course
   stopped : ℕ → ℕ → Charge → ℤ → Course
-
-abbrev pub chargeOf : Gas → Charge
-chargeOf g = record { air = pos (g .air); carbon = pos (g .carbon); hydrogen = pos (g .hydrogen) }
 
 abbrev pub courseOf : ℕ → End → Course
 courseOf n (ended st) = done n (chargeOf (st .gas)) (pos (st .mk))

@@ -5,7 +5,6 @@ use crate::stepping;
 use crate::stepping::Standing;
 use crate::stepping::Stepped;
 use air::Millikelvin;
-use gas::Charge;
 use gas::Gas;
 ghost use mathlib.Core.Path.{_≡_};
 ghost use Prim.Native.Nat.{_+_, _*_, _≤_};
@@ -20,20 +19,8 @@ ghost use Rattle.sheet.specs.Sheet.{Accepted};
 ghost use Rattle.gas.specs.Burning.{document01, Limits, Burns};
 ghost use Rattle.walk.specs.Limits.{stepNumbers, mostSteps};
 ghost use Rattle.walk.specs.Lists.{lists};
-ghost use Rattle.walk.specs.Walk.{chargeOf, ended, cut, courseOf, paperWalk, run, stepsOf, Walks};
+ghost use Rattle.walk.specs.Walk.{ended, cut, courseOf, paperWalk, run, stepsOf, Walks};
 ghost use Rattle.walk.specs.inner.Work.{stateOf, Stands, Begun, stepNo};
-
-// A charge as it comes back.
-fn charge_of(gas: Gas) -> Charge
-    requires { ⌜ Limits document01 gas ⌝ }
-    ensures { λ r. ⌜ r ≡ chargeOf gas ⌝ }
-{
-    Charge {
-        air: signed::of_u64(gas.air),
-        carbon: signed::of_u64(gas.carbon),
-        hydrogen: signed::of_u64(gas.hydrogen),
-    }
-}
 
 // Where a walk stands before its first step.
 pub(crate) fn begin(gas: Gas, t: Millikelvin, sheet: &[u32], air: &[u32; rows::ROWS]) -> Standing
@@ -55,7 +42,7 @@ fn tell_done(n: usize, st: Standing) -> WalkAnswer
 {
     let gas = st.gas;
     let t = st.t;
-    WalkAnswer::Done(n as u32, charge_of(gas), t)
+    WalkAnswer::Done(n as u32, gas::inner::charge_of(gas), t)
 }
 
 // A walk stopped at its step n.
@@ -65,7 +52,7 @@ fn tell_stopped(n: usize, number: u32, st: Standing) -> WalkAnswer
 {
     let gas = st.gas;
     let t = st.t;
-    WalkAnswer::Stopped(n as u32, number, charge_of(gas), t)
+    WalkAnswer::Stopped(n as u32, number, gas::inner::charge_of(gas), t)
 }
 
 // The step at an index of the list.

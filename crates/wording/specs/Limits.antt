@@ -1,6 +1,7 @@
 -- The most bytes that each text of an answer has, from the widths of machine words alone: a number of 64 bits has at most 20 bytes in decimal, its minus sign counted, and one of
 -- 32 bits at most 10 (specs/DigitsLaws.antt of text).
 use Prim.Native.Nat.{ℕ, _+_, _*_}
+use Rattle.gas.specs.Burning.{chargeNumbers}
 
 -- a tab and a number of 64 bits
 abbrev pub field : ℕ
@@ -26,10 +27,10 @@ looksRoom places = field + small * places
 abbrev pub inverseRoom : ℕ → ℕ
 inverseRoom places = (2 + 2 * field) + looksRoom places
 
--- A, c, h and mK
+-- the numbers of a charge, and mK
 abbrev pub stateRoom : ℕ
-stateRoom = 4 * field
+stateRoom = field * chargeNumbers + field
 
--- stopped, the number of steps, the refusal's number, and A, c, h and mK
+-- stopped, the number of steps, the refusal's number, the charge and mK
 abbrev pub courseRoom : ℕ
 courseRoom = (7 + 2 * small) + stateRoom

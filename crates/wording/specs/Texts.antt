@@ -14,6 +14,7 @@ use Rattle.refusal.specs.Refusals.{Told, gives, refused}
 use Rattle.air.specs.Inverse.{Found}
 use Rattle.gas.specs.declared.Products.{Products}
 use Rattle.gas.specs.declared.Charge.{Charge}
+use Rattle.gas.specs.Burning.{numbersOfCharge}
 use Rattle.walk.specs.Walk.{Course, done, stopped}
 use Rattle.marking.specs.declared.inner.StationNumbers.{StationNumbers}
 
@@ -89,9 +90,9 @@ abbrev pub markText : Told Bool → List ℕ
 markText = toldText verdictText
 
 -- ---- a walk
--- A, c, h, mK
+-- the numbers of the charge, and mK
 abbrev pub stateText : Charge → ℤ → List ℕ
-stateText ch mk = (((9 ∷ decimalZ (ch .air)) ++ (9 ∷ decimalZ (ch .carbon))) ++ (9 ∷ decimalZ (ch .hydrogen))) ++ (9 ∷ decimalZ mk)
+stateText ch mk = fieldsText (numbersOfCharge ch) ++ (9 ∷ decimalZ mk)
 
 -- how a walk ended
 abbrev pub courseText : Course → List ℕ

@@ -2,7 +2,7 @@
 use Prim.Native.Nat.{ℕ, zero, suc, _+_, _-_, _*_, _≤_, _<_}
 use mathlib.Core.Path.{_≡_, refl, sym, _∙_, ap}
 use mathlib.Core.Bool.{Bool, true, false, cond}
-use mathlib.Core.List.{List, [], _∷_, _++_, map, append-assoc, append-nil}
+use mathlib.Core.List.{List, [], _∷_, _++_, map, append-assoc, append-nil, map-append}
 use native.Mathlib.Omega.{arith}
 use native.Mathlib.Numerals.{add-one}
 use borrow.Author.Tests.{eq-eqb, ne-eqb}
@@ -13,7 +13,7 @@ use lib.Seq.{take-suc, drop-cons}
 use Rattle.signed.specs.Zed.{eqZ}
 use Rattle.rows.specs.Limits.{firstKelvin, lastKelvin}
 use Rattle.air.specs.Limits.{lookPlaces, hottest}
-use Rattle.text.specs.Decimal.{decimal}
+use Rattle.text.specs.Decimal.{decimal, decimalZ}
 use Rattle.air.specs.Halving.{halving, eleven}
 use Rattle.air.specs.HalvingLaws.{halving-ind}
 use Rattle.air.specs.Inverse.{fits, looks, Found, written}
@@ -27,6 +27,11 @@ use Rattle.gas.specs.Heat.{gasHeat}
 use Rattle.gas.specs.Answers.{paperTemperature, temperatureTold, Temperature}
 use Rattle.wording.specs.Texts.{fieldsText, used, inverseText}
 
+-- numbers with one more behind them
+fields-snoc : (zs : List ℤ) (z : ℤ) → fieldsText (zs ++ (z ∷ [])) ≡ fieldsText zs ++ (9 ∷ decimalZ z)
+fields-snoc [] z = append-nil (9 ∷ decimalZ z)
+fields-snoc (y ∷ zs) z = ap (λ (t : List ℕ). (9 ∷ decimalZ y) ++ t) (fields-snoc zs z) ∙ sym (append-assoc (9 ∷ decimalZ y) (fieldsText zs) (9 ∷ decimalZ z))
+
 -- looks before the first unused place
 module _ (l : List ℕ) (i : ℕ) (h : i < length l) where
   pub used-none : getD l i 0 ≡ 0 → used (drop i l) ≡ []
@@ -37,11 +42,11 @@ module _ (l : List ℕ) (i : ℕ) (h : i < length l) where
 
   -- one number more of a list
   pub fields-more : fieldsText (map pos (take (i + 1) l)) ≡ fieldsText (map pos (take i l)) ++ (9 ∷ decimal (getD l i 0))
-  fields-more = rw (add-one i, take-suc l i 0 h) (snoc (take i l) (getD l i 0))
-    where
-      snoc : (ks : List ℕ) (k : ℕ) → fieldsText (map pos (ks ++ (k ∷ []))) ≡ fieldsText (map pos ks) ++ (9 ∷ decimal k)
-      snoc [] k = append-nil (9 ∷ decimal k)
-      snoc (j ∷ ks) k = ap (λ (t : List ℕ). (9 ∷ decimal j) ++ t) (snoc ks k) ∙ sym (append-assoc (9 ∷ decimal j) (fieldsText (map pos ks)) (9 ∷ decimal k))
+  fields-more = rw (add-one i, take-suc l i 0 h) (ap fieldsText (map-append pos (take i l) (getD l i 0 ∷ [])) ∙ fields-snoc (map pos (take i l)) (pos (getD l i 0)))
+
+-- the same of signed numbers
+pub numbers-more : (l : List ℤ) (i : ℕ) → i < length l → fieldsText (take (i + 1) l) ≡ fieldsText (take i l) ++ (9 ∷ decimalZ (getD l i (pos 0)))
+numbers-more l i h = rw (add-one i, take-suc l i (pos 0) h) (fields-snoc (take i l) (getD l i (pos 0)))
 
 pub used-end : (l : List ℕ) (i : ℕ) → length l ≤ i → used (drop i l) ≡ []
 used-end l i h = none (drop i l) (omega (arith, length-drop i l))

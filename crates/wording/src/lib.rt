@@ -51,6 +51,20 @@ pub fn put_signed(z: i64, out: &mut [u8], at: usize) -> usize
     text::put_whole(z, out, next)
 }
 
+// Numbers, a tab before each.
+fn put_numbers(numbers: &[i64], out: &mut [u8], at: usize) -> usize
+    requires { ⌜ at ≤ length (now out) ⌝ }
+    ensures { λ r. ⌜ Puts (field * length (now (numbers .entry))) (fieldsText (now (numbers .entry))) (now (out .entry)) at r (now (out .exit)) ⌝ }
+{
+    let mut next = at;
+    let mut i = 0;
+    while i < numbers.len() {
+        next = put_signed(numbers[i], out, next);
+        i += 1;
+    }
+    next
+}
+
 // `refused`, the number and, where there is one, the row.
 pub fn put_refusal(refusal: Refusal, out: &mut [u8], at: usize) -> usize
     ensures { λ r. ⌜ Puts refusalRoom (refusalText refusal) (now (out .entry)) at r (now (out .exit)) ⌝ }
@@ -209,14 +223,14 @@ pub fn put_mark(answer: MarkAnswer, out: &mut [u8], at: usize) -> usize
     }
 }
 
-// A, c, h and mK.
+// The numbers of the charge, and mK.
 fn put_state(charge: Charge, t: Millikelvin, out: &mut [u8], at: usize) -> usize
+    requires { ⌜ at ≤ length (now out) ⌝ }
     ensures { λ r. ⌜ Puts stateRoom (stateText charge (t .0)) (now (out .entry)) at r (now (out .exit)) ⌝ }
 {
-    let air = put_signed(charge.air, out, at);
-    let carbon = put_signed(charge.carbon, out, air);
-    let hydrogen = put_signed(charge.hydrogen, out, carbon);
-    put_signed(t.0, out, hydrogen)
+    let numbers = gas::inner::numbers_of(charge);
+    let next = put_numbers(&numbers, out, at);
+    put_signed(t.0, out, next)
 }
 
 // How a walk ended.

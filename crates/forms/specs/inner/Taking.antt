@@ -10,7 +10,7 @@ use lib.Seq.{sets}
 use Rattle.fields.specs.Fields.{holdsReturn, fieldsOf, fourOf}
 use Rattle.fields.specs.declared.Four.{Four}
 use Rattle.fields.specs.declared.Four.the-variants.{Are, Not}
-use Rattle.gas.specs.Burning.{chargeIn}
+use Rattle.gas.specs.Burning.{chargeNumbers, chargeIn}
 use Rattle.sheet.specs.declared.SheetAnswer.{SheetAnswer}
 use Rattle.walk.specs.Limits.{stepNumbers}
 use Rattle.console.specs.Walks.{walkTold, printedWalk}
@@ -60,7 +60,7 @@ stepsIn lines numbers = take (stepNumbers * min lines keptLines - stepNumbers) (
 
 -- the printed walk of a question of so many lines
 abbrev pub questionPage : SheetAnswer → List ℕ → ℕ → List ℤ → List ℕ
-questionPage verdict s lines numbers = printedWalk (walkTold verdict s (chargeIn numbers) (getD numbers 3 (pos 0)) (stepsIn lines numbers))
+questionPage verdict s lines numbers = printedWalk (walkTold verdict s (chargeIn numbers) (getD numbers chargeNumbers (pos 0)) (stepsIn lines numbers))
 
 -- the lines taken one after the other
 abbrev pub withLines : Question → List (List ℕ) → Question

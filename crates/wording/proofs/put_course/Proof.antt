@@ -18,7 +18,7 @@ put-small-requires : tie.Need-put-small-requires
 put-small-requires c κs = search needs
 
 put-state-requires : tie.Need-put-state-requires
-put-state-requires c κs = search needs
+put-state-requires c κs = let p = c .before .before .before .put-small .ensures in omega (arith, p .put .next-is, p .put .same-length)
 
 enum-known-answer-2 : tie.Need-enum-known-answer-2
 enum-known-answer-2 c = search needs
@@ -36,7 +36,7 @@ put-small-requires-3 : tie.Need-put-small-requires-3
 put-small-requires-3 c κs = search needs
 
 put-state-requires-2 : tie.Need-put-state-requires-2
-put-state-requires-2 c κs = search needs
+put-state-requires-2 c κs = let p = c .before .before .before .put-small3 .ensures in omega (arith, p .put .next-is, p .put .same-length)
 
 enum-known-answer-3 : tie.Need-enum-known-answer-3
 enum-known-answer-3 c = search needs

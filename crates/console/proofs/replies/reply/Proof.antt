@@ -1,5 +1,6 @@
 -- `reply`: each request with as many fields as it takes; a gas is asked only over a sheet that was found good (`ready`).
 use Rattle.console.specs.VerdictLaws.{ready}
+use Rattle.fields.specs.Fields.{fieldsFrom}
 use borrow.Author.Needs.{needs}
 use Rattle.console.proofs.replies.reply.Statement.{statement}
 use Rattle.console.proofs.replies.reply.Tie as tie
@@ -16,25 +17,19 @@ reply-air-requires c κs = search needs
 enum-told : tie.Need-enum-told
 enum-told c = search needs
 
-read-three-requires : tie.Need-read-three-requires
-read-three-requires c κs = search needs
-
 reply-burn-requires : tie.Need-reply-burn-requires
 reply-burn-requires c κs = search needs
 
 enum-known-request-2 : tie.Need-enum-known-request-2
 enum-known-request-2 c = search needs
 
-read-four-requires : tie.Need-read-four-requires
-read-four-requires c κs = search needs
-
 gas-ask-of-requires : tie.Need-gas-ask-of-requires
 gas-ask-of-requires c κs = search needs
 
 reply-gas-requires : tie.Need-reply-gas-requires
 reply-gas-requires c κs =
-    let s = c .before .before .before .before .before .before .before .before .before in
-    (rw (c .before .gas-ask-of .ensures) (ready (s .args .sheet .now) (c .before .before .read-four .result) (s .args .verdict) (s .pre .0)), s .pre .1 .heats-are)
+    let s = c .before .before .before .before .before .before .before .before in
+    (rw (c .before .gas-ask-of .ensures) (ready (s .args .sheet .now) (fieldsFrom (s .args .line .now) (s .args .from)) (s .args .verdict) (s .pre .0)), s .pre .1 .heats-are)
 
 enum-told-2 : tie.Need-enum-told-2
 enum-told-2 c = search needs
@@ -64,7 +59,7 @@ same-length-2 : tie.Need-same-length-2
 same-length-2 c = search needs
 
 returns-2 : tie.Need-returns-2
-returns-2 c = rw (c .before .before .before .before .before .enum-told .given .1) (rw (c .before .before .before .before .read-three .ensures) at (c .before .before .reply-burn .ensures))
+returns-2 c = rw (c .before .before .before .before .enum-told .given .1) (c .before .before .reply-burn .ensures)
 
 same-length-3 : tie.Need-same-length-3
 same-length-3 c = search needs
@@ -72,9 +67,7 @@ same-length-3 c = search needs
 returns-3 : tie.Need-returns-3
 returns-3 c =
     let at-gas-ask-of = c .before .before .before .before in
-    let at-read-four = at-gas-ask-of .before in
-    let at-request2 = at-read-four .before .before in
-    rw (at-request2 .request2 .given .1) (rw (at-gas-ask-of .gas-ask-of .ensures, at-read-four .read-four .ensures) at (c .before .before .reply-gas .ensures))
+    rw (at-gas-ask-of .before .before .request2 .given .1) (rw (at-gas-ask-of .gas-ask-of .ensures) at (c .before .before .reply-gas .ensures))
 
 same-length-4 : tie.Need-same-length-4
 same-length-4 c = search needs
@@ -102,10 +95,8 @@ reply-spec =
     read-one-requires
     reply-air-requires
     enum-told
-    read-three-requires
     reply-burn-requires
     enum-known-request-2
-    read-four-requires
     gas-ask-of-requires
     reply-gas-requires
     enum-told-2

@@ -5,6 +5,12 @@ use borrow.Author.Needs.{needs}
 use Rattle.forms.proofs.pages.put_example.Statement.{statement}
 use Rattle.forms.proofs.pages.put_example.Tie as tie
 
+slice-aggregate-charge-in : tie.Need-slice-aggregate-charge-in
+slice-aggregate-charge-in c = search needs
+
+charge-in-requires : tie.Need-charge-in-requires
+charge-in-requires c κs = search needs
+
 slice-aggregate-print-judged : tie.Need-slice-aggregate-print-judged
 slice-aggregate-print-judged c = search needs
 
@@ -24,13 +30,15 @@ returns : tie.Need-returns
 returns c =
     let at-put-byte = c .before .before .before .before .before .before in
     let at-print-judged = at-put-byte .before .before .before .before in
-    puts-whole (omega arith)
-    (puts-then (puts-then (at-print-judged .print-judged .ensures) (puts-text (at-put-byte .put-byte .ensures))) (c .before .before .put-usage .ensures))
+    let walk = rw (at-print-judged .before .before .charge-in .ensures) at (at-print-judged .print-judged .ensures) in
+    puts-whole (omega arith) (puts-then (puts-then walk (puts-text (at-put-byte .put-byte .ensures))) (c .before .before .put-usage .ensures))
 
 pub put-example-spec : {M : Type 1} → statement M
 put-example-spec =
     tie.close
     (tie.spec
+    slice-aggregate-charge-in
+    charge-in-requires
     slice-aggregate-print-judged
     print-judged-requires
     put-byte-requires

@@ -4,8 +4,8 @@ use mathlib.Core.Path.{refl}
 use mir.Val.{SFits}
 use mir.Syntax.{w64}
 use Rattle.signed.specs.Zed.{back}
-use Rattle.walk.proofs.course.charge_of.Statement.{statement}
-use Rattle.walk.proofs.course.charge_of.Tie as tie
+use Rattle.gas.proofs.inner.charge_of.Statement.{statement}
+use Rattle.gas.proofs.inner.charge_of.Tie as tie
 
 of-u64-requires : tie.Need-of-u64-requires
 of-u64-requires c κs = search needs
