@@ -13,9 +13,9 @@ use Rattle.sheet.specs.declared.SheetAnswer.{SheetAnswer}
 use Rattle.sheet.specs.declared.SheetAnswer.the-variants.{Good, Refused}
 use Rattle.sheet.specs.Answers.{paperSheet, numbersOf, listAfter, SheetRead}
 use Rattle.built_in.specs.BuiltIn.{builtIn}
-use Rattle.gas.specs.declared.Charge.{Charge}
+use Rattle.burning.specs.declared.Charge.{Charge}
 use Rattle.gas.specs.declared.TemperatureAnswer.{TemperatureAnswer}
-use Rattle.gas.specs.Burning.{Weights}
+use Rattle.burning.specs.Burning.{Weights}
 use Rattle.gas.specs.Answers.{paperTemperature, Temperature}
 use Rattle.walk.specs.declared.WalkAnswer.{WalkAnswer}
 use Rattle.walk.specs.Lists.{Lists}

@@ -20,10 +20,11 @@ use Rattle.air.specs.Inverse.{unreached}
 use Rattle.air.specs.Answers.{airHeatTold, psiTold as airPsiTold, cpTold as airCpTold, psiOrder}
 use Rattle.sheet.specs.Sheet.{notLong}
 use Rattle.sheet.specs.Answers.{breaks, badRowOf, sheetLines, judgeTold}
-use Rattle.gas.specs.declared.Charge.{Charge}
-use Rattle.gas.specs.Burning.{Weights, document01, gasOf}
+use Rattle.burning.specs.declared.Charge.{Charge}
+use Rattle.burning.specs.Burning.{Weights, document01, gasOf}
 use Rattle.gas.specs.Heat.{gasHeat}
-use Rattle.gas.specs.Answers.{chargeLines, heatOrder, searchOrder, burnTold, heatTold, contentTold, specificTold}
+use Rattle.burning.specs.Answers.{chargeLines, burnTold}
+use Rattle.gas.specs.Answers.{heatOrder, searchOrder, heatTold, contentTold, specificTold}
 use Rattle.walk.specs.Limits.{stepNumbers}
 use Rattle.walk.specs.Lists.{Lists}
 use Rattle.walk.specs.Walk.{Trace, End, ended, cut, run, stepsOf, startLines, startState, walked, walkedInto, courseOf, course}

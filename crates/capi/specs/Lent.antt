@@ -10,8 +10,8 @@ use Rattle.air.specs.Answers.{psiValue, psiInverseTold}
 use Rattle.sheet.specs.Sheet.{notLong}
 use Rattle.sheet.specs.Answers.{Form, readTold, numbersOf, sheetLines}
 use Rattle.built_in.specs.BuiltIn.{builtIn}
-use Rattle.gas.specs.declared.Charge.{Charge}
-use Rattle.gas.specs.Burning.{Weights, document01, gasOf}
+use Rattle.burning.specs.declared.Charge.{Charge}
+use Rattle.burning.specs.Burning.{Weights, document01, gasOf}
 use Rattle.gas.specs.Heat.{gasHeat}
 use Rattle.gas.specs.Answers.{temperatureTold}
 use Rattle.walk.specs.Lists.{Lists}

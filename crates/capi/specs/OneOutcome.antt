@@ -8,9 +8,10 @@ use Rattle.refusal.specs.Refusals.{Told}
 use Rattle.air.specs.Answers.{airHeatTold, psiTold as airPsiTold, cpTold as airCpTold}
 use Rattle.sheet.specs.Answers.{readTold, judgeTold}
 use Rattle.sheet.specs.FormLaws.{one-form}
-use Rattle.gas.specs.declared.Charge.{Charge}
-use Rattle.gas.specs.Burning.{Weights}
-use Rattle.gas.specs.Answers.{burnTold, heatTold, contentTold, specificTold}
+use Rattle.burning.specs.declared.Charge.{Charge}
+use Rattle.burning.specs.Burning.{Weights}
+use Rattle.burning.specs.Answers.{burnTold}
+use Rattle.gas.specs.Answers.{heatTold, contentTold, specificTold}
 use Rattle.walk.specs.Lists.{Lists}
 use Rattle.walk.specs.Walk.{Trace}
 use Rattle.marking.specs.Marking.{marked}

@@ -19,8 +19,9 @@ ghost use mathlib.Core.Path.{_≡_};
 ghost use mathlib.Core.List.{[], _∷_};
 ghost use Rattle.air.specs.Answers.{airHeatTold, psiTold as airPsiTold, cpTold as airCpTold};
 ghost use Rattle.sheet.specs.Answers.{judgeTold};
-ghost use Rattle.gas.specs.Burning.{document01, chargeIn};
-ghost use Rattle.gas.specs.Answers.{burnTold, heatTold, contentTold, specificTold};
+ghost use Rattle.burning.specs.Burning.{document01, chargeIn};
+ghost use Rattle.burning.specs.Answers.{burnTold};
+ghost use Rattle.gas.specs.Answers.{heatTold, contentTold, specificTold};
 ghost use Rattle.walk.specs.Lists.{lists};
 ghost use Rattle.marking.specs.Marking.{marked};
 ghost use Rattle.marking.specs.Figures.{stationTold};
@@ -100,7 +101,7 @@ pub extern "C" fn gaskeys_air_cp(kelvin: i64) -> ReadingTold
 pub extern "C" fn gaskeys_burn(air: i64, carbon: i64, hydrogen: i64) -> BurnTold
     ensures { λ r. ⌜ r ≡ flatBurn (burnTold document01 (chargeIn (air ∷ carbon ∷ hydrogen ∷ []))) ⌝ }
 {
-    telling::tell_burn(gas::burn(gas::inner::charge_in(&[air, carbon, hydrogen])))
+    telling::tell_burn(burning::burn(burning::inner::charge_in(&[air, carbon, hydrogen])))
 }
 
 // The gas heat of a charge at a temperature.
@@ -114,7 +115,7 @@ pub extern "C" fn gaskeys_gas_heat(
 ) -> HeatTold
     ensures { λ r. ⌜ r ≡ flatHeat (heatTold document01 (chargeIn (air ∷ carbon ∷ hydrogen ∷ [])) millikelvin (now (sheet .entry))) ⌝ }
 {
-    let charge = gas::inner::charge_in(&[air, carbon, hydrogen]);
+    let charge = burning::inner::charge_in(&[air, carbon, hydrogen]);
     telling::tell_heat(gas::gas_heat(charge, Millikelvin(millikelvin), sheet))
 }
 
@@ -129,7 +130,7 @@ pub extern "C" fn gaskeys_content(
 ) -> HeatTold
     ensures { λ r. ⌜ r ≡ flatHeat (contentTold document01 (chargeIn (air ∷ carbon ∷ hydrogen ∷ [])) millikelvin (now (sheet .entry))) ⌝ }
 {
-    let charge = gas::inner::charge_in(&[air, carbon, hydrogen]);
+    let charge = burning::inner::charge_in(&[air, carbon, hydrogen]);
     telling::tell_heat(gas::content(charge, Millikelvin(millikelvin), sheet))
 }
 
@@ -144,7 +145,7 @@ pub extern "C" fn gaskeys_specific_content(
 ) -> HeatTold
     ensures { λ r. ⌜ r ≡ flatHeat (specificTold document01 (chargeIn (air ∷ carbon ∷ hydrogen ∷ [])) millikelvin (now (sheet .entry))) ⌝ }
 {
-    let charge = gas::inner::charge_in(&[air, carbon, hydrogen]);
+    let charge = burning::inner::charge_in(&[air, carbon, hydrogen]);
     telling::tell_specific(gas::specific_content(charge, Millikelvin(millikelvin), sheet))
 }
 
@@ -160,7 +161,7 @@ pub extern "C" fn gaskeys_temperature(
 ) -> TemperatureTold
     ensures { λ r. ⌜ TemperatureIs document01 (chargeIn (air ∷ carbon ∷ hydrogen ∷ [])) target (now (sheet .entry)) (now (looks .entry)) r (now (looks .exit)) ⌝ }
 {
-    let charge = gas::inner::charge_in(&[air, carbon, hydrogen]);
+    let charge = burning::inner::charge_in(&[air, carbon, hydrogen]);
     telling::tell_temperature(gas::temperature(charge, Heat(target), sheet, looks))
 }
 
@@ -190,7 +191,7 @@ pub extern "C" fn gaskeys_walk(
         (lists (now (temperatures .entry)) (now (rests .entry)) (now (looks .entry))) r
         (lists (now (temperatures .exit)) (now (rests .exit)) (now (looks .exit))) ⌝ }
 {
-    let charge = gas::inner::charge_in(&[air, carbon, hydrogen]);
+    let charge = burning::inner::charge_in(&[air, carbon, hydrogen]);
     telling::tell_walk(walk::walk(
         charge,
         Millikelvin(millikelvin),
@@ -213,7 +214,7 @@ pub extern "C" fn gaskeys_station(
 ) -> StationTold
     ensures { λ r. ⌜ r ≡ flatStation (stationTold (chargeIn (air ∷ carbon ∷ hydrogen ∷ [])) millikelvin (now (sheet .entry))) ⌝ }
 {
-    let charge = gas::inner::charge_in(&[air, carbon, hydrogen]);
+    let charge = burning::inner::charge_in(&[air, carbon, hydrogen]);
     telling::tell_station(marking::station(charge, Millikelvin(millikelvin), sheet))
 }
 

@@ -16,10 +16,11 @@ use Rattle.sheet.specs.Sheet.{Accepted}
 use Rattle.sheet.specs.Answers.{paperSheet, judgeTold, SheetRead}
 use Rattle.sheet.specs.declared.SheetAnswer.{SheetAnswer}
 use Rattle.sheet.specs.declared.SheetAnswer.the-variants.{Good, Refused as SheetRefused}
-use Rattle.gas.specs.declared.Charge.{Charge}
-use Rattle.gas.specs.Burning.{document01, gasOf, chargeNumbers, chargeIn}
+use Rattle.burning.specs.declared.Charge.{Charge}
+use Rattle.burning.specs.Burning.{document01, gasOf, chargeNumbers, chargeIn}
 use Rattle.gas.specs.Heat.{gasHeat}
-use Rattle.gas.specs.Answers.{burnTold, heatTold, contentTold, specificTold, temperatureTold}
+use Rattle.burning.specs.Answers.{burnTold}
+use Rattle.gas.specs.Answers.{heatTold, contentTold, specificTold, temperatureTold}
 use Rattle.marking.specs.Figures.{numbersTold}
 use Rattle.console.specs.declared.requests.Request.{Request}
 use Rattle.console.specs.declared.requests.Request.the-variants.{OfAir, Burn, OfGas, Walk, Mark, Unknown}

@@ -13,8 +13,8 @@ use Rattle.signed.specs.Zed.{inZ}
 use Rattle.sheet.specs.Sheet.{Accepted}
 use Rattle.sheet.specs.AnswersLaws.{past-sheet}
 use Rattle.sheet.specs.declared.SheetAnswer.the-variants.{Good, Refused}
-use Rattle.gas.specs.declared.Charge.{Charge}
-use Rattle.gas.specs.Burning.{document01, beyond, lean, oxygenUsed}
+use Rattle.burning.specs.declared.Charge.{Charge}
+use Rattle.burning.specs.Burning.{document01, beyond, lean, oxygenUsed}
 use Rattle.gas.specs.Examples.{charge}
 use Rattle.walk.specs.Limits.{mostSteps, mostLooks}
 use Rattle.walk.specs.Examples.{printedSteps, told-printed, first-looks, second-looks}

@@ -1,7 +1,7 @@
 -- The limits of the console (docs/PROGRAM.md), each said here once.
 use Prim.Native.Nat.{ℕ, _+_, _*_}
 use Rattle.air.specs.Limits.{lookPlaces}
-use Rattle.gas.specs.Burning.{chargeNumbers}
+use Rattle.burning.specs.Burning.{chargeNumbers}
 use Rattle.walk.specs.Limits.{mostSteps, mostNumbers}
 use Rattle.wording.specs.Limits.{field, small, looksRoom, courseRoom}
 

@@ -6,7 +6,7 @@ use lib.IntN.{ℤ}
 use Rattle.text.specs.Puts.{Puts}
 use Rattle.text.specs.PutLaws.{one-put}
 use Rattle.sheet.specs.declared.SheetAnswer.the-variants.{Good}
-use Rattle.gas.specs.declared.Charge.{Charge}
+use Rattle.burning.specs.declared.Charge.{Charge}
 use Rattle.console.specs.Limits.{answerRoom, pageRoom}
 use Rattle.console.specs.Answers.{answerOf}
 use Rattle.console.specs.Walks.{walkTold, printedWalk}

@@ -8,8 +8,8 @@ use lib.ListN.{getD}
 use Rattle.text.specs.Bytes.{bytesOf}
 use Rattle.fields.specs.Fields.{valuesOf, countAll, isCount}
 use Rattle.fields.specs.Words.{Worded, _names_, namedBy}
-use Rattle.gas.specs.declared.Charge.{Charge}
-use Rattle.gas.specs.Burning.{chargeNumbers, chargeIn}
+use Rattle.burning.specs.declared.Charge.{Charge}
+use Rattle.burning.specs.Burning.{chargeNumbers, chargeIn}
 use Rattle.console.specs.Limits.{startNumbers}
 use Rattle.sheet.specs.declared.SheetAnswer.{SheetAnswer}
 use Rattle.sheet.specs.declared.SheetAnswer.the-variants.{Good, Refused as SheetRefused}

@@ -20,10 +20,11 @@ use Rattle.sheet.specs.Answers.{paperSheet, judgeTold, sheetLines}
 use Rattle.sheet.specs.AnswersLaws.{stopped-by-sheet, accepted-of-told}
 use Rattle.sheet.specs.declared.SheetAnswer.{SheetAnswer}
 use Rattle.sheet.specs.declared.SheetAnswer.the-variants.{Good, Refused}
-use Rattle.gas.specs.declared.Charge.{Charge}
-use Rattle.gas.specs.Burning.{document01, gasOf, chargeNumbers, chargeIn}
+use Rattle.burning.specs.declared.Charge.{Charge}
+use Rattle.burning.specs.Burning.{document01, gasOf, chargeNumbers, chargeIn}
 use Rattle.gas.specs.Heat.{gasHeat, contentAbove15, specificContent}
-use Rattle.gas.specs.Answers.{chargeLines, temperatureLines, heatOrder}
+use Rattle.burning.specs.Answers.{chargeLines}
+use Rattle.gas.specs.Answers.{temperatureLines, heatOrder}
 use Rattle.air.specs.Inverse.{unreached, found, looks}
 use Rattle.marking.specs.Figures.{numbersOf}
 use Rattle.walk.specs.Walk.{run, stepsOf, startLines, startState, walked}

@@ -17,8 +17,8 @@ use Rattle.refusal.specs.Refusals.{Told, gives, refused, numberOf}
 use Rattle.sheet.specs.Answers.{sheetLines}
 use Rattle.sheet.specs.declared.SheetAnswer.{SheetAnswer}
 use Rattle.sheet.specs.declared.SheetAnswer.the-variants.{Good, Refused}
-use Rattle.gas.specs.declared.Charge.{Charge}
-use Rattle.gas.specs.Burning.{document01, chargeNumbers, chargeIn}
+use Rattle.burning.specs.declared.Charge.{Charge}
+use Rattle.burning.specs.Burning.{document01, chargeNumbers, chargeIn}
 use Rattle.walk.specs.Step.{Out}
 use Rattle.walk.specs.Walk.{Trace, Course, done, stopped, walked, course, outsOf}
 use Rattle.console.specs.Limits.{startNumbers}

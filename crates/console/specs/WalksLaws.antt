@@ -32,9 +32,9 @@ use Rattle.sheet.specs.Answers.{sheetLines}
 use Rattle.sheet.specs.AnswersLaws.{past-sheet}
 use Rattle.sheet.specs.declared.SheetAnswer.{SheetAnswer}
 use Rattle.sheet.specs.declared.SheetAnswer.the-variants.{Good, Refused as SheetRefused}
-use Rattle.gas.specs.declared.Charge.{Charge}
-use Rattle.gas.specs.Burning.{Weights, document01, chargeIn, chargeNumbers}
-use Rattle.gas.specs.BurningLaws.{charge-alike}
+use Rattle.burning.specs.declared.Charge.{Charge}
+use Rattle.burning.specs.Burning.{Weights, document01, chargeIn, chargeNumbers}
+use Rattle.burning.specs.BurningLaws.{charge-alike}
 use Rattle.walk.specs.declared.Step.{Step}
 use Rattle.walk.specs.declared.WalkAnswer.{WalkAnswer}
 use Rattle.walk.specs.declared.WalkAnswer.the-variants.{Refused}

@@ -4,7 +4,7 @@ use crate::requests;
 use crate::walks;
 use crate::walks::Layout;
 use air::Millikelvin;
-use gas::Charge;
+use burning::Charge;
 use sheet::SheetAnswer;
 ghost use mathlib.Core.Path.{_≡_};
 ghost use Rattle.rows.specs.Rows.{rowsH};

@@ -8,7 +8,7 @@ mod requests;
 mod walks;
 
 use air::Millikelvin;
-use gas::Charge;
+use burning::Charge;
 use sheet::SheetAnswer;
 ghost use Rattle.text.specs.Puts.{Puts};
 ghost use Rattle.console.specs.Limits.{answerRoom, pageRoom};

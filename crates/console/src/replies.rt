@@ -7,8 +7,8 @@ use crate::requests::Quantity;
 use crate::requests::Request;
 use crate::walks;
 use air::Millikelvin;
-use gas::BurnAnswer;
-use gas::Charge;
+use burning::BurnAnswer;
+use burning::Charge;
 use gas::Heat;
 use sheet::SheetAnswer;
 use text::Whole;
@@ -18,7 +18,7 @@ ghost use Rattle.text.specs.Puts.{Puts};
 ghost use Rattle.console.specs.Limits.{replyRoom};
 ghost use Rattle.sheet.specs.Sheet.{Accepted};
 ghost use Rattle.fields.specs.Fields.{fieldsFrom};
-ghost use Rattle.gas.specs.Answers.{paperBurn};
+ghost use Rattle.burning.specs.Answers.{paperBurn};
 ghost use Rattle.wording.specs.Texts.{burntText};
 ghost use Rattle.console.specs.Requests.{unknownText, misfitText, noNumberText};
 ghost use Rattle.console.specs.Answers.{Columns, Judged, Ready, airText, airReply, burnText, gasText, gasReply, replyText};
@@ -112,11 +112,11 @@ fn put_burnt(answer: BurnAnswer, out: &mut [u8], at: usize) -> usize
 fn reply_burn(line: &[u8], from: usize, out: &mut [u8], at: usize) -> usize
     ensures { λ r. ⌜ Puts replyRoom (burnText (fieldsFrom (now (line .entry)) from)) (now (out .entry)) at r (now (out .exit)) ⌝ }
 {
-    let mut numbers = [0i64; gas::inner::CHARGE_NUMBERS];
+    let mut numbers = [0i64; burning::inner::CHARGE_NUMBERS];
     if !fields::read_exactly(line, from, &mut numbers) {
         return put_misfit(out, at);
     }
-    put_burnt(gas::burn(gas::inner::charge_in(&numbers)), out, at)
+    put_burnt(burning::burn(burning::inner::charge_in(&numbers)), out, at)
 }
 
 // The temperature of a gas heat, asked with eleven places for looks.

@@ -1,6 +1,6 @@
 // The words that requests begin with, and what their numbers and the sheet's verdict come to.
 use crate::walks;
-use gas::Charge;
+use burning::Charge;
 use refusal::Refusal;
 use sheet::SheetAnswer;
 ghost use mathlib.Core.Path.{_≡_};
@@ -111,8 +111,8 @@ pub(crate) fn gas_ask_of(line: &[u8], from: usize, verdict: SheetAnswer) -> GasA
     match verdict {
         SheetAnswer::Good => {
             GasAsk::Of(
-                gas::inner::charge_in(&numbers),
-                numbers[gas::inner::CHARGE_NUMBERS],
+                burning::inner::charge_in(&numbers),
+                numbers[burning::inner::CHARGE_NUMBERS],
             )
         }
         SheetAnswer::Refused(refusal) => GasAsk::Refused(refusal),

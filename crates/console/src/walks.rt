@@ -1,7 +1,7 @@
 // Walks as the console shows them: in a line, as the answer to a request, or on a page, as document 01 prints one (specs/Walks.antt). One loop puts the steps of both.
 use crate::replies;
 use air::Millikelvin;
-use gas::Charge;
+use burning::Charge;
 use sheet::SheetAnswer;
 use walk::WalkAnswer;
 ghost use mathlib.Core.Path.{_≡_};
@@ -27,7 +27,7 @@ pub enum Layout {
 }
 
 // the numbers of a start: A, c, h and mK
-pub(crate) const START_NUMBERS: usize = gas::inner::CHARGE_NUMBERS + 1;
+pub(crate) const START_NUMBERS: usize = burning::inner::CHARGE_NUMBERS + 1;
 // places for a start, the steps of the longest walk, and one number more, by which too many are known
 const HELD_NUMBERS: usize = START_NUMBERS + walk::MOST_NUMBERS + 1;
 
@@ -264,8 +264,8 @@ pub(crate) fn reply_walk(
     if n < START_NUMBERS {
         return replies::put_misfit(out, at);
     }
-    let start = gas::inner::charge_in(&list);
-    let t = Millikelvin(list[gas::inner::CHARGE_NUMBERS]);
+    let start = burning::inner::charge_in(&list);
+    let t = Millikelvin(list[burning::inner::CHARGE_NUMBERS]);
     show(
         Layout::Line,
         start,

@@ -1,6 +1,6 @@
 // Which refusal a printed walk ends in: the page shows its number alone, and a line on standard error says whether it is the sheet's, the start's or a step's.
 use air::Millikelvin;
-use gas::Charge;
+use burning::Charge;
 use refusal::Refusal;
 use sheet::SheetAnswer;
 use walk::WalkAnswer;
@@ -33,8 +33,8 @@ pub(crate) fn say(
 fn say_walk(numbers: &[i64], end: usize, sheet: &[u32], air: &[u32; rows::ROWS])
     requires { ⌜ (length (now numbers) ≡ keptNumbers) × (stepNumbers ≤ end) × (end ≤ keptNumbers) × Accepted (now sheet) × (now air ≡ rowsH) ⌝ }
 {
-    let start = gas::inner::charge_in(numbers);
-    let t = Millikelvin(numbers[gas::inner::CHARGE_NUMBERS]);
+    let start = burning::inner::charge_in(numbers);
+    let t = Millikelvin(numbers[burning::inner::CHARGE_NUMBERS]);
     match course(start, t, &numbers[walk::STEP_NUMBERS..end], sheet, air) {
         WalkAnswer::Done(_, _, _) => (),
         WalkAnswer::Stopped(done, number, _, _) => say_step(done as u64 + 1, number),

@@ -7,7 +7,7 @@ use lib.IntN.{pos}
 use Rattle.text.specs.Bytes.{bytesOf}
 use Rattle.text.specs.Decimal.{decimal}
 use Rattle.sheet.specs.declared.SheetAnswer.{SheetAnswer}
-use Rattle.gas.specs.Burning.{chargeIn}
+use Rattle.burning.specs.Burning.{chargeIn}
 use Rattle.console.specs.Walks.{walkTold, printedWalk}
 
 abbrev pub usageText : List ℕ

@@ -48,7 +48,7 @@ pub fn put_example(
     ensures { λ r. ⌜ Stands (examplePage verdict (now (sheet .entry))) (now (out .entry)) 0 r (now (out .exit)) ⌝ }
 {
     let steps = [0i64, 0, 0, 1_200_000_001, 0, 0, 0, 2_400_000];
-    let start = gas::inner::charge_in(&[1i64, 0, 0]);
+    let start = burning::inner::charge_in(&[1i64, 0, 0]);
     let next = console::inner::print_judged(
         start,
         Millikelvin(200_000),

@@ -99,8 +99,8 @@ pub fn put_page(
     requires { ⌜ Judged verdict (now sheet) × (length (now numbers) ≡ keptNumbers) × (1 ≤ lines) × (at + pageRoom ≤ length (now out)) × (now air ≡ rowsH) ⌝ }
     ensures { λ r. ⌜ Stands (questionPage verdict (now (sheet .entry)) lines (now (numbers .entry))) (now (out .entry)) at r (now (out .exit)) ⌝ }
 {
-    let start = gas::inner::charge_in(numbers);
-    let t = Millikelvin(numbers[gas::inner::CHARGE_NUMBERS]);
+    let start = burning::inner::charge_in(numbers);
+    let t = Millikelvin(numbers[burning::inner::CHARGE_NUMBERS]);
     let end = walk::STEP_NUMBERS * kept(lines);
     console::inner::print_judged(
         start,

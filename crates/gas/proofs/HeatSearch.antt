@@ -17,7 +17,7 @@ use Rattle.air.specs.Halving.{middle, halving, eleven, Halved}
 use Rattle.air.specs.HalvingLaws.{Turn, to-upper, to-lower, Kept, places-are}
 use Rattle.air.specs.Inverse.{temperature, rest, looks}
 use Rattle.air.specs.InverseLaws.{no-looks, looks-are, row-kept, top-temperature, top-rest, temperature-is, rest-is}
-use Rattle.gas.specs.declared.Masses.{Masses}
+use Rattle.burning.specs.declared.Masses.{Masses}
 use Rattle.gas.specs.declared.TemperatureAnswer.the-variants.{At}
 use Rattle.gas.specs.Heat.{heatOf, heatSlope}
 use Rattle.gas.specs.RestLaws.{row-of}

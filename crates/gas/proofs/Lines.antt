@@ -12,11 +12,12 @@ use Rattle.signed.specs.Zed.{up, dn, Is, is-pos, is-self, is-add, is-minus, dn-
 use Rattle.rows.specs.Limits.{firstKelvin, lastKelvin}
 use Rattle.rows.specs.Rows.{rowsH}
 use Rattle.sheet.specs.Sheet.{Accepted}
-use Rattle.gas.specs.declared.Gas.{Gas}
-use Rattle.gas.specs.declared.Masses.{Masses}
-use Rattle.gas.specs.Burning.{document01, Burns}
-use Rattle.gas.specs.BurningLaws.{document01-sound}
-use Rattle.gas.specs.Heat.{massesOf, heatOf, heatSlope}
+use Rattle.burning.specs.declared.Gas.{Gas}
+use Rattle.burning.specs.declared.Masses.{Masses}
+use Rattle.burning.specs.Burning.{document01, Burns}
+use Rattle.burning.specs.BurningLaws.{document01-sound}
+use Rattle.burning.specs.Burning.{massesOf}
+use Rattle.gas.specs.Heat.{heatOf, heatSlope}
 use Rattle.gas.specs.HeatLaws.{heat-line, slope-most, air-outweighs, masses-sized}
 use Rattle.gas.specs.inner.Sizes.{Ready, Rises, along}
 

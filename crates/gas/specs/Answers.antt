@@ -1,5 +1,4 @@
--- What the calls on a gas tell (document 01, "Burning", "Temperature from heat" and "Refusal numbers"): each an order of refusals, and the values else.
-use mathlib.Core.Bool.{not}
+-- What the calls on a gas tell (document 01, "Temperature from heat" and "Refusal numbers"): each an order of refusals, and the values else.
 use mathlib.Core.List.{List, [], _∷_, _++_}
 use mathlib.Core.Path.{_≡_}
 use Prim.Native.Nat.{ℕ}
@@ -7,33 +6,22 @@ use lib.Dec.{ltb}
 use lib.IntN.{ℤ, pos}
 use lib.ListN.{length}
 use Rattle.signed.specs.Zed.{up, outside}
-use Rattle.refusal.specs.Refusals.{Told, gives, refused, refuses, Line, _when_, first}
+use Rattle.refusal.specs.Refusals.{Told, gives, refused, Line, _when_, first}
 use Rattle.air.specs.Limits.{lookPlaces, coldest, hottest}
 use Rattle.air.specs.Inverse.{looks, unreached, Found, found, written}
 use Rattle.sheet.specs.Answers.{sheetLines}
-use Rattle.gas.specs.declared.Charge.{Charge}
-use Rattle.gas.specs.declared.Products.{Products}
-use Rattle.gas.specs.declared.BurnAnswer.{BurnAnswer}
-use Rattle.gas.specs.declared.BurnAnswer.the-variants.{Is as Burnt, Refused as BurnRefused}
+use Rattle.burning.specs.declared.Charge.{Charge}
 use Rattle.gas.specs.declared.HeatAnswer.{HeatAnswer}
 use Rattle.gas.specs.declared.HeatAnswer.the-variants.{Is as HeatIs, Refused as HeatRefused}
 use Rattle.gas.specs.declared.SpecificAnswer.{SpecificAnswer}
 use Rattle.gas.specs.declared.SpecificAnswer.the-variants.{Is as SpecificIs, Refused as SpecificRefused}
 use Rattle.gas.specs.declared.TemperatureAnswer.{TemperatureAnswer}
 use Rattle.gas.specs.declared.TemperatureAnswer.the-variants.{At, Refused as TemperatureRefused}
-use Rattle.gas.specs.declared.inner.Admitted.{Admitted}
-use Rattle.gas.specs.declared.inner.Admitted.the-variants.{Burning, Refused}
-use Rattle.gas.specs.declared.Gas.{Gas}
-use Rattle.gas.specs.declared.fuelling.Fuelled.{Fuelled}
-use Rattle.gas.specs.declared.fuelling.Fuelled.the-variants.{To, Beyond}
-use Rattle.gas.specs.Burning.{Weights, gasOf, beyond, lean, products}
+use Rattle.burning.specs.Burning.{Weights, gasOf}
+use Rattle.burning.specs.Answers.{chargeLines}
 use Rattle.gas.specs.Heat.{gasHeat, contentAbove15, specificContent}
 
 -- ---- an answer as the paper has it: its values, or the refusal
-abbrev pub paperBurn : BurnAnswer → Told Products
-paperBurn (Burnt p) = gives p
-paperBurn (BurnRefused r) = refused r
-
 abbrev pub paperHeat : HeatAnswer → Told ℤ
 paperHeat (HeatIs h) = gives (h .0)
 paperHeat (HeatRefused r) = refused r
@@ -46,19 +34,7 @@ abbrev pub paperTemperature : TemperatureAnswer → Told Found
 paperTemperature (At t left) = gives (record { mk = t .0; left = left .0 })
 paperTemperature (TemperatureRefused r) = refused r
 
-abbrev pub paperGas : Admitted → Told Gas
-paperGas (Burning g) = gives g
-paperGas (Refused r) = refused r
-
-abbrev pub paperFuelled : Fuelled → Told Gas
-paperFuelled (To g) = gives g
-paperFuelled Beyond = refuses 4
-
 -- ---- the orders
--- refusals 4 and 5: A, c or h outside its limit; not lean
-abbrev pub chargeLines : Weights → Charge → List Line
-chargeLines w ch = 4 when beyond w ch ∷ 5 when not (lean w (gasOf ch)) ∷ []
-
 -- refusal 6: temperature outside range
 abbrev pub temperatureLines : ℤ → List Line
 temperatureLines mk = 6 when outside (pos coldest) (pos hottest) mk ∷ []
@@ -72,9 +48,6 @@ abbrev pub searchOrder : Weights → Charge → List ℕ → ℕ → List Line
 searchOrder w ch s places = sheetLines s ++ (10 when ltb places lookPlaces ∷ chargeLines w ch)
 
 -- ---- what each call tells
-abbrev pub burnTold : Weights → Charge → Told Products
-burnTold w ch = first (chargeLines w ch) (products w (gasOf ch))
-
 abbrev pub heatTold : Weights → Charge → ℤ → List ℕ → Told ℤ
 heatTold w ch mk s = first (heatOrder w ch mk s) (gasHeat w s (gasOf ch) (up mk))
 

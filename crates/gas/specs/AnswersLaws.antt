@@ -16,13 +16,14 @@ use Rattle.air.specs.Inverse.{unreached, found}
 use Rattle.sheet.specs.Sheet.{Accepted}
 use Rattle.sheet.specs.Answers.{sheetLines}
 use Rattle.sheet.specs.AnswersLaws.{accepted-of-told, past-sheet}
-use Rattle.gas.specs.declared.Charge.{Charge}
-use Rattle.gas.specs.declared.Gas.{Gas}
+use Rattle.burning.specs.declared.Charge.{Charge}
+use Rattle.burning.specs.declared.Gas.{Gas}
 use Rattle.gas.specs.declared.TemperatureAnswer.{TemperatureAnswer}
 use Rattle.gas.specs.declared.TemperatureAnswer.the-variants.{Refused}
-use Rattle.gas.specs.Burning.{Weights, gasOf, Burns}
-use Rattle.gas.specs.BurningLaws.{burns-of}
-use Rattle.gas.specs.Answers.{paperTemperature, chargeLines, temperatureLines, heatOrder, searchOrder, Inverted}
+use Rattle.burning.specs.Burning.{Weights, gasOf, Burns}
+use Rattle.burning.specs.BurningLaws.{burns-of}
+use Rattle.burning.specs.Answers.{chargeLines}
+use Rattle.gas.specs.Answers.{paperTemperature, temperatureLines, heatOrder, searchOrder, Inverted}
 use Rattle.refusal.specs.OrdersLaws.{stopped-first, passed, clear-order, clear-left, clear-right, given}
 use Rattle.gas.specs.inner.Search.{Searched}
 

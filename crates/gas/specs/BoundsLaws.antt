@@ -28,10 +28,11 @@ use Rattle.air.specs.ReadingsLaws.{between-line, grows-on}
 use Rattle.air.specs.InverseLaws.{rises-on}
 use Rattle.sheet.specs.Sheet.{o2, co2, h2o, Accepted}
 use Rattle.sheet.specs.SheetLaws.{accepted-step}
-use Rattle.gas.specs.declared.Gas.{Gas}
-use Rattle.gas.specs.Burning.{document01, oxygenUsed, lean, Burns, totalMass}
-use Rattle.gas.specs.BurningLaws.{document01-sound}
-use Rattle.gas.specs.Heat.{massesOf, heatOf, gasHeat, contentAbove15, specificContent}
+use Rattle.burning.specs.declared.Gas.{Gas}
+use Rattle.burning.specs.Burning.{document01, oxygenUsed, lean, Burns, totalMass}
+use Rattle.burning.specs.BurningLaws.{document01-sound}
+use Rattle.burning.specs.Burning.{massesOf}
+use Rattle.gas.specs.Heat.{heatOf, gasHeat, contentAbove15, specificContent}
 use Rattle.gas.specs.HeatLaws.{sum-parts, added-most, air-outweighs, masses-sized, per-pound, gas-straight}
 use Rattle.gas.specs.inner.Sizes.{Sized}
 

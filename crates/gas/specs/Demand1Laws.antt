@@ -8,19 +8,15 @@ use Rattle.signed.specs.Zed.{up}
 use Rattle.refusal.specs.Refusals.{Demand1}
 use Rattle.refusal.specs.RefusalsLaws.{demand-1}
 use Rattle.air.specs.Inverse.{unreached, found}
-use Rattle.gas.specs.declared.Charge.{Charge}
-use Rattle.gas.specs.declared.BurnAnswer.{BurnAnswer}
+use Rattle.burning.specs.declared.Charge.{Charge}
 use Rattle.gas.specs.declared.HeatAnswer.{HeatAnswer}
 use Rattle.gas.specs.declared.SpecificAnswer.{SpecificAnswer}
 use Rattle.gas.specs.declared.TemperatureAnswer.{TemperatureAnswer}
-use Rattle.gas.specs.Burning.{Weights, gasOf, products}
+use Rattle.burning.specs.Burning.{Weights, gasOf}
 use Rattle.gas.specs.Heat.{gasHeat, contentAbove15, specificContent}
-use Rattle.gas.specs.Answers.{paperBurn, paperHeat, paperSpecific, paperTemperature, chargeLines, heatOrder, searchOrder, burnTold, heatTold, contentTold, specificTold, Temperature}
+use Rattle.gas.specs.Answers.{paperHeat, paperSpecific, paperTemperature, heatOrder, searchOrder, heatTold, contentTold, specificTold, Temperature}
 
 module _ (w : Weights) (ch : Charge) where
-  pub demand-1-burn : (r : BurnAnswer) → paperBurn r ≡ burnTold w ch → Demand1 (chargeLines w ch) (products w (gasOf ch)) (paperBurn r)
-  demand-1-burn r e = demand-1 _ _ e
-
   module _ (mk : ℤ) (s : List ℕ) where
     pub demand-1-gas_heat : (r : HeatAnswer) → paperHeat r ≡ heatTold w ch mk s → Demand1 (heatOrder w ch mk s) (gasHeat w s (gasOf ch) (up mk)) (paperHeat r)
     demand-1-gas_heat r e = demand-1 _ _ e

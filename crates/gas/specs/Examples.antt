@@ -18,11 +18,13 @@ use Rattle.air.specs.Answers.{airHeatTold, psiTold}
 use Rattle.air.specs.Examples.{P1, P2, P3}
 use Rattle.sheet.specs.Sheet.{o2, co2, h2o, rise, Accepted}
 use Rattle.sheet.specs.AnswersLaws.{past-sheet}
-use Rattle.gas.specs.declared.Charge.{Charge}
-use Rattle.gas.specs.Burning.{document01, gasOf, beyond, lean, oxygenUsed, products, massOf}
-use Rattle.gas.specs.Heat.{massesOf, heatSum, heatOf, gasHeat, heatSlope}
+use Rattle.burning.specs.declared.Charge.{Charge}
+use Rattle.burning.specs.Burning.{document01, gasOf, beyond, lean, oxygenUsed, products, massOf}
+use Rattle.burning.specs.Burning.{massesOf}
+use Rattle.gas.specs.Heat.{heatSum, heatOf, gasHeat, heatSlope}
 use Rattle.gas.specs.HeatLaws.{sum-is, heat-straight}
-use Rattle.gas.specs.Answers.{chargeLines, burnTold, temperatureTold}
+use Rattle.burning.specs.Answers.{chargeLines, burnTold}
+use Rattle.gas.specs.Answers.{temperatureTold}
 
 abbrev pub charge : ℕ → ℕ → ℕ → Charge
 charge A c h = record { air = pos A; carbon = pos c; hydrogen = pos h }

@@ -1,7 +1,7 @@
 -- Gas heat, content above 15 °C and specific content (document 01, "Burning"). A gas heat is in mg times 0.00001 C.H.U./lb, a signed number; a
 -- temperature in mK; a sheet is its list of numbers.
 use mathlib.Core.List.{List}
-use Prim.Native.Nat.{ℕ, _*_}
+use Prim.Native.Nat.{ℕ}
 use lib.IntN.{ℤ, pos, _+ℤ_, _-ℤ_, _*ℤ_}
 use lib.Signed.{quotZ}
 use Rattle.signed.specs.Zed.{up}
@@ -9,13 +9,9 @@ use Rattle.rows.specs.Table.{airH}
 use Rattle.air.specs.Limits.{fifteenDegrees}
 use Rattle.air.specs.Readings.{between, airHeat}
 use Rattle.sheet.specs.Sheet.{o2, co2, h2o, rise}
-use Rattle.gas.specs.declared.Gas.{Gas}
-use Rattle.gas.specs.declared.Masses.{Masses}
-use Rattle.gas.specs.Burning.{Weights, co2Weight, h2oWeight, oxygenUsed, totalMass}
-
--- the masses that take part in the heat: 100000A, oxygen used, CO2 mass, H2O mass
-unfoldable pub massesOf : Weights → Gas → Masses
-massesOf w g = record { air = w .airPart * g .air; used = oxygenUsed w g; co2 = co2Weight w * g .carbon; h2o = h2oWeight w * g .hydrogen }
+use Rattle.burning.specs.declared.Gas.{Gas}
+use Rattle.burning.specs.declared.Masses.{Masses}
+use Rattle.burning.specs.Burning.{Weights, totalMass, massesOf}
 
 -- 100000A times air heat, less oxygen used times O2 heat, plus CO2 mass times CO2 heat, plus H2O mass times H2O heat
 unfoldable pub heatSum : Masses → ℕ → ℕ → ℕ → ℕ → ℤ

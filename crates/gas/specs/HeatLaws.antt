@@ -20,10 +20,11 @@ use Rattle.air.specs.InverseLaws.{mK-rises}
 use Rattle.sheet_text.specs.Limits.{mostFigure}
 use Rattle.sheet.specs.Sheet.{o2, co2, h2o, rise, Accepted}
 use Rattle.sheet.specs.SheetLaws.{accepted-limit, accepted-step}
-use Rattle.gas.specs.declared.Gas.{Gas}
-use Rattle.gas.specs.declared.Masses.{Masses}
-use Rattle.gas.specs.Burning.{Weights, document01, Sound, Limits, oxygenUsed, lean, Burns}
-use Rattle.gas.specs.Heat.{massesOf, heatSum, heatOf, heatSlope, gasHeat}
+use Rattle.burning.specs.declared.Gas.{Gas}
+use Rattle.burning.specs.declared.Masses.{Masses}
+use Rattle.burning.specs.Burning.{Weights, document01, Sound, Limits, oxygenUsed, lean, Burns}
+use Rattle.burning.specs.Burning.{massesOf}
+use Rattle.gas.specs.Heat.{heatSum, heatOf, heatSlope, gasHeat}
 use Rattle.gas.specs.inner.Sizes.{Sized, PerPound}
 
 -- ---- the paper's sum

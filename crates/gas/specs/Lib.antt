@@ -1,10 +1,6 @@
-pub mod Burning
-pub mod Fuel
 pub mod Heat
 pub mod Answers
 pub mod inner
-pub mod BurningLaws
-pub mod FuelLaws
 pub mod HeatLaws
 pub mod BoundsLaws
 pub mod RestLaws

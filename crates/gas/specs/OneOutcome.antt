@@ -6,29 +6,17 @@ use lib.IntN.{ℤ}
 use Rattle.refusal.specs.Refusals.{Told, gives, refused}
 use Rattle.refusal.specs.RefusalsLaws.{one-told}
 use Rattle.air.specs.Inverse.{Found}
-use Rattle.gas.specs.declared.Charge.{Charge}
-use Rattle.gas.specs.declared.Products.{Products}
-use Rattle.gas.specs.declared.BurnAnswer.{BurnAnswer}
-use Rattle.gas.specs.declared.BurnAnswer.the-variants.{Is as Burnt, Refused as BurnRefused}
+use Rattle.burning.specs.declared.Charge.{Charge}
 use Rattle.gas.specs.declared.HeatAnswer.{HeatAnswer}
 use Rattle.gas.specs.declared.HeatAnswer.the-variants.{Is as HeatIs, Refused as HeatRefused}
 use Rattle.gas.specs.declared.SpecificAnswer.{SpecificAnswer}
 use Rattle.gas.specs.declared.SpecificAnswer.the-variants.{Is as SpecificIs, Refused as SpecificRefused}
 use Rattle.gas.specs.declared.TemperatureAnswer.{TemperatureAnswer}
 use Rattle.gas.specs.declared.TemperatureAnswer.the-variants.{At, Refused as TemperatureRefused}
-use Rattle.gas.specs.Burning.{Weights}
-use Rattle.gas.specs.Answers.{paperBurn, paperHeat, paperSpecific, paperTemperature, burnTold, heatTold, contentTold, specificTold, Temperature}
+use Rattle.burning.specs.Burning.{Weights}
+use Rattle.gas.specs.Answers.{paperHeat, paperSpecific, paperTemperature, heatTold, contentTold, specificTold, Temperature}
 
 -- the answer that the paper's telling stands for
-burnAnswer : Told Products → BurnAnswer
-burnAnswer (gives p) = Burnt p
-burnAnswer (refused r) = BurnRefused r
-
-burn-back : (r : BurnAnswer) → burnAnswer (paperBurn r) ≡ r
-unfolding burnAnswer
-burn-back (Burnt p) = refl
-burn-back (BurnRefused r) = refl
-
 heatAnswer : Told ℤ → HeatAnswer
 heatAnswer (gives h) = HeatIs (record { 0 = h })
 heatAnswer (refused r) = HeatRefused r
@@ -57,9 +45,6 @@ temperature-back (At t left) = refl
 temperature-back (TemperatureRefused r) = refl
 
 module _ (w : Weights) (ch : Charge) where
-  pub one-burn : (r q : BurnAnswer) → paperBurn r ≡ burnTold w ch → paperBurn q ≡ burnTold w ch → r ≡ q
-  one-burn = one-told paperBurn burnAnswer burn-back
-
   module _ (mk : ℤ) (s : List ℕ) where
     pub one-gas_heat : (r q : HeatAnswer) → paperHeat r ≡ heatTold w ch mk s → paperHeat q ≡ heatTold w ch mk s → r ≡ q
     one-gas_heat = one-told paperHeat heatAnswer heat-back

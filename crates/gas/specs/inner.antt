@@ -1,4 +1,3 @@
 -- What the functions of src/ say to each other: no promise of an entry cites it.
-pub mod Counts
 pub mod Sizes
 pub mod Search

@@ -1,7 +1,7 @@
 // The heat of masses that were weighed, over an accepted sheet with the air column lent.
 use crate::Heat;
-use crate::Masses;
 use air::Millikelvin;
+use burning::Masses;
 ghost use mathlib.Core.Path.{_≡_};
 ghost use mathlib.Core.Bool.{true};
 ghost use Prim.Native.Nat.{_*_, _≤_, _<_};

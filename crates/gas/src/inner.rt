@@ -1,15 +1,15 @@
 // The inner doors of gas: a charge tested in parts, with its heats and its search past the tests, for the walk and the figures above; and what each entry tells past
 // the judge, for a program that keeps one sheet for many requests. The sheet was judged once, and the air column is lent.
-use crate::Charge;
-use crate::Gas;
 use crate::Heat;
 use crate::HeatAnswer;
 use crate::SpecificAnswer;
 use crate::TemperatureAnswer;
-use crate::burning;
 use crate::heats;
 use crate::search;
 use air::Millikelvin;
+use burning::Charge;
+use burning::Gas;
+use burning::inner::Admitted;
 use refusal::Refusal;
 ghost use mathlib.Core.Path.{_≡_};
 ghost use mathlib.Core.Bool.{true, false};
@@ -22,103 +22,16 @@ ghost use Rattle.rows.specs.Rows.{rowsH};
 ghost use Rattle.refusal.specs.Refusals.{first};
 ghost use Rattle.air.specs.Limits.{lookPlaces, coldest, hottest};
 ghost use Rattle.sheet.specs.Sheet.{Accepted};
-ghost use Rattle.gas.specs.Burning.{document01, chargeNumbers, chargeIn, numbersOfCharge, gasOf, chargeOf, beyond as Burning·beyond, Limits, lean as Burning·lean, Burns, fuelMass, totalMass};
+ghost use Rattle.burning.specs.Burning.{document01, gasOf, Burns};
+ghost use Rattle.burning.specs.Answers.{paperGas, chargeLines};
 ghost use Rattle.gas.specs.Heat.{gasHeat, contentAbove15, specificContent};
-ghost use Rattle.gas.specs.Answers.{paperGas, paperHeat, paperSpecific, chargeLines, temperatureLines, heatTold, contentTold, specificTold, Inverted, Temperature};
-
-// A charge that burns lean within its limits, or the refusal.
-pub enum Admitted {
-    Burning(Gas),
-    Refused(Refusal),
-}
-
-// numbers of a charge
-pub const CHARGE_NUMBERS: usize = 3;
-
-// The charge of its numbers: A, c, h.
-pub fn charge_in(numbers: &[i64]) -> Charge
-    requires { ⌜ chargeNumbers ≤ length (now numbers) ⌝ }
-    ensures { λ r. ⌜ r ≡ chargeIn (now (numbers .entry)) ⌝ }
-{
-    Charge {
-        air: numbers[0],
-        carbon: numbers[1],
-        hydrogen: numbers[2],
-    }
-}
-
-// The numbers of a charge: A, c, h.
-pub fn numbers_of(charge: Charge) -> [i64; CHARGE_NUMBERS]
-    ensures { λ r. ⌜ r ≡ numbersOfCharge charge ⌝ }
-{
-    [charge.air, charge.carbon, charge.hydrogen]
-}
-
-// Whether A, c or h is outside its limit.
-pub(crate) fn beyond(charge: Charge) -> bool
-    ensures { λ r. ⌜ r ≡ Burning·beyond document01 charge ⌝ }
-{
-    if !signed::inside(charge.air, 1, burning::MOST_AIR) {
-        return true;
-    }
-    if !signed::inside(charge.carbon, 0, burning::MOST_ATOMS) {
-        return true;
-    }
-    !signed::inside(charge.hydrogen, 0, burning::MOST_ATOMS)
-}
-
-// A charge within its limits, unsigned.
-pub(crate) fn gas_of(charge: Charge) -> Gas
-    requires { ⌜ Burning·beyond document01 charge ≡ false ⌝ }
-    ensures { λ r. ⌜ r ≡ gasOf charge ⌝ }
-{
-    Gas {
-        air: signed::to_u64(charge.air),
-        carbon: signed::to_u64(charge.carbon),
-        hydrogen: signed::to_u64(charge.hydrogen),
-    }
-}
-
-// The charge that a gas is, as it comes back.
-pub fn charge_of(gas: Gas) -> Charge
-    requires { ⌜ Limits document01 gas ⌝ }
-    ensures { λ r. ⌜ r ≡ chargeOf gas ⌝ }
-{
-    Charge {
-        air: signed::of_u64(gas.air),
-        carbon: signed::of_u64(gas.carbon),
-        hydrogen: signed::of_u64(gas.hydrogen),
-    }
-}
-
-// Whether the air has the oxygen for all the fuel.
-pub fn lean(gas: Gas) -> bool
-    requires { ⌜ Limits document01 gas ⌝ }
-    ensures { λ r. ⌜ r ≡ Burning·lean document01 gas ⌝ }
-{
-    let masses = burning::weigh(gas);
-    masses.used <= burning::oxygen(gas)
-}
-
-// The gas of a charge, refusals 4 and 5 tested.
-pub(crate) fn admit(charge: Charge) -> Admitted
-    ensures { λ r. ⌜ paperGas r ≡ first (chargeLines document01 charge) (gasOf charge) ⌝ }
-{
-    if beyond(charge) {
-        return Admitted::Refused(Refusal::Plain(crate::LIMIT));
-    }
-    let gas = gas_of(charge);
-    if !lean(gas) {
-        return Admitted::Refused(Refusal::Plain(crate::RICH));
-    }
-    Admitted::Burning(gas)
-}
+ghost use Rattle.gas.specs.Answers.{paperHeat, paperSpecific, temperatureLines, heatTold, contentTold, specificTold, Inverted, Temperature};
 
 // The gas of a charge at a temperature, refusals 4, 5 and 6 tested.
 pub fn admit_at(charge: Charge, t: Millikelvin) -> Admitted
     ensures { λ r. ⌜ paperGas r ≡ first (chargeLines document01 charge ++ temperatureLines (t .0)) (gasOf charge) ⌝ }
 {
-    match admit(charge) {
+    match burning::inner::admit(charge) {
         Admitted::Refused(r) => Admitted::Refused(r),
         Admitted::Burning(gas) => {
             if air::inner::covered(t) {
@@ -130,28 +43,12 @@ pub fn admit_at(charge: Charge, t: Millikelvin) -> Admitted
     }
 }
 
-// The mass of the fuel.
-pub(crate) fn fuel_mass(gas: Gas) -> u64
-    requires { ⌜ Limits document01 gas ⌝ }
-    ensures { λ r. ⌜ r ≡ fuelMass document01 gas ⌝ }
-{
-    burning::CARBON * gas.carbon + burning::HYDROGEN * gas.hydrogen
-}
-
-// The mass of the air and the fuel.
-pub fn total_mass(gas: Gas) -> u64
-    requires { ⌜ Limits document01 gas ⌝ }
-    ensures { λ r. ⌜ r ≡ totalMass document01 gas ⌝ }
-{
-    burning::AIR * gas.air + fuel_mass(gas)
-}
-
 // The gas heat at a temperature.
 pub fn heat_at(gas: Gas, t: Millikelvin, sheet: &[u32], air: &[u32; rows::ROWS]) -> Heat
     requires { ⌜ Burns document01 gas × Accepted (now sheet) × (now air ≡ rowsH) × (inZ (pos coldest) (pos hottest) (t .0) ≡ true) ⌝ }
     ensures { λ r. ⌜ r .0 ≡ gasHeat document01 (now (sheet .entry)) gas (up (t .0)) ⌝ }
 {
-    heats::at_temperature(burning::weigh(gas), t, sheet, air)
+    heats::at_temperature(burning::weights::weigh(gas), t, sheet, air)
 }
 
 // The content above 15 °C at a temperature.
@@ -169,7 +66,7 @@ pub fn specific_at(gas: Gas, t: Millikelvin, sheet: &[u32], air: &[u32; rows::RO
     ensures { λ r. ⌜ r ≡ specificContent document01 (now (sheet .entry)) gas (up (t .0)) ⌝ }
 {
     let content = content_at(gas, t, sheet, air);
-    signed::quotient(content.0, total_mass(gas))
+    signed::quotient(content.0, burning::inner::total_mass(gas))
 }
 
 // The temperature of a heat with the rest, refusals 8 and 9 tested. The looks go into the first eleven places of the list, 0 where unused.
@@ -183,7 +80,7 @@ pub fn find(
     requires { ⌜ Burns document01 gas × Accepted (now sheet) × (now air ≡ rowsH) × (lookPlaces ≤ length (now looks)) ⌝ }
     ensures { λ r. ⌜ Inverted [] (gasHeat document01 (now (sheet .entry)) gas) (target .0) (now (looks .entry)) r (now (looks .exit)) ⌝ }
 {
-    let masses = burning::weigh(gas);
+    let masses = burning::weights::weigh(gas);
     let first = heats::at_kelvin(masses, rows::FIRST_KELVIN, sheet, air);
     if target.0 < first.0 {
         return TemperatureAnswer::Refused(Refusal::Plain(air::BELOW));
@@ -257,7 +154,7 @@ pub fn temperature_judged(
     if looks.len() < air::LOOK_PLACES {
         return TemperatureAnswer::Refused(Refusal::Plain(air::LIST_SHORT));
     }
-    match admit(charge) {
+    match burning::inner::admit(charge) {
         Admitted::Burning(gas) => find(gas, target, looks, sheet, air),
         Admitted::Refused(r) => TemperatureAnswer::Refused(r),
     }

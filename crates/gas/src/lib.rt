@@ -1,65 +1,20 @@
-// The gas (document 01, "Burning" and "Temperature from heat"): what a charge burns to, its heat, contents and specific content, and the temperature of a heat.
+// The gas (document 01, "Burning" and "Temperature from heat"): the heat, contents and specific content of what a charge burns to, and the temperature of a heat.
 // Every call takes every input and judges a sheet list that it is lent first, once. What an answer tells, in the paper's numbers (specs/Answers.antt), is the
-// first refusal of its order whose condition holds, else the paper's formula in whole numbers (specs/Burning.antt, specs/Heat.antt).
-mod burning;
-pub mod fuelling;
+// first refusal of its order whose condition holds, else the paper's formula in whole numbers (specs/Heat.antt).
 mod heats;
 pub mod inner;
 mod search;
 
 use air::Millikelvin;
-use inner::Admitted;
+use burning::Charge;
 use refusal::Refusal;
 use sheet::SheetAnswer;
 ghost use mathlib.Core.Path.{_≡_};
-ghost use Rattle.gas.specs.Burning.{document01};
-ghost use Rattle.gas.specs.Answers.{paperBurn, paperHeat, paperSpecific, burnTold, heatTold, contentTold, specificTold, Temperature};
+ghost use Rattle.burning.specs.Burning.{document01};
+ghost use Rattle.gas.specs.Answers.{paperHeat, paperSpecific, heatTold, contentTold, specificTold, Temperature};
 
 // A gas heat, in mg times 0.00001 C.H.U./lb.
 pub struct Heat(pub i64);
-
-// A charge: parts of air of 100 g, moles of carbon, moles of hydrogen atoms.
-pub struct Charge {
-    pub air: i64,
-    pub carbon: i64,
-    pub hydrogen: i64,
-}
-
-// Fuel as it is handed in, any numbers: moles of carbon, moles of hydrogen atoms.
-pub struct Fuel {
-    pub carbon: i64,
-    pub hydrogen: i64,
-}
-
-// A charge whose numbers are within their limits, unsigned.
-pub struct Gas {
-    pub air: u64,
-    pub carbon: u64,
-    pub hydrogen: u64,
-}
-
-// What a charge burns to, in mg.
-pub struct Products {
-    pub co2: u64,
-    pub h2o: u64,
-    pub o2: u64,
-    pub n2: u64,
-    pub ar: u64,
-}
-
-// The masses that take part in a gas heat, in mg: the air, the oxygen used, CO2 and H2O.
-pub struct Masses {
-    pub air: u64,
-    pub used: i64,
-    pub co2: u64,
-    pub h2o: u64,
-}
-
-// The products, or the refusal.
-pub enum BurnAnswer {
-    Is(Products),
-    Refused(Refusal),
-}
 
 // A gas heat or a content, or the refusal.
 pub enum HeatAnswer {
@@ -77,21 +32,6 @@ pub enum SpecificAnswer {
 pub enum TemperatureAnswer {
     At(Millikelvin, Heat),
     Refused(Refusal),
-}
-
-// A, c or h outside its limit
-pub const LIMIT: u32 = 4;
-// not lean
-pub const RICH: u32 = 5;
-
-// What a charge burns to.
-pub fn burn(charge: Charge) -> BurnAnswer
-    ensures { λ r. ⌜ paperBurn r ≡ burnTold document01 charge ⌝ }
-{
-    match inner::admit(charge) {
-        Admitted::Burning(gas) => BurnAnswer::Is(burning::burnt(gas)),
-        Admitted::Refused(r) => BurnAnswer::Refused(r),
-    }
 }
 
 // The gas heat of a charge at a temperature.

@@ -2,10 +2,10 @@
 // written down: `halve` has the only call of `at_kelvin` on the way, at the middle that it has just written. The division reads the two heats of the row that was kept.
 // What goes down the recursion are plain numbers, heats by value and references, so that the compiler makes a loop of it.
 use crate::Heat;
-use crate::Masses;
 use crate::TemperatureAnswer;
 use crate::heats;
 use air::Millikelvin;
+use burning::Masses;
 ghost use mathlib.Core.Path.{_≡_};
 ghost use Prim.Native.Nat.{_≤_, _<_};
 ghost use lib.ListN.{length};

@@ -5,8 +5,8 @@ use Prim.Native.Nat.{ℕ}
 use lib.IntN.{ℤ}
 use Rattle.refusal.specs.Refusals.{Demand1}
 use Rattle.refusal.specs.RefusalsLaws.{demand-1}
-use Rattle.gas.specs.declared.Charge.{Charge}
-use Rattle.gas.specs.Burning.{document01}
+use Rattle.burning.specs.declared.Charge.{Charge}
+use Rattle.burning.specs.Burning.{document01}
 use Rattle.gas.specs.Answers.{heatOrder}
 use Rattle.marking.specs.declared.Typed.{Typed}
 use Rattle.marking.specs.declared.MarkAnswer.{MarkAnswer}

@@ -8,9 +8,9 @@ use lib.Ieee.{Float, binary64, ofInt, sub}
 use lib.Ieee.Exact.{HasValue}
 use Rattle.signed.specs.Zed.{up}
 use Rattle.refusal.specs.Refusals.{Told, gives, refused, first}
-use Rattle.gas.specs.declared.Charge.{Charge}
-use Rattle.gas.specs.declared.Gas.{Gas}
-use Rattle.gas.specs.Burning.{document01, gasOf, totalMass}
+use Rattle.burning.specs.declared.Charge.{Charge}
+use Rattle.burning.specs.declared.Gas.{Gas}
+use Rattle.burning.specs.Burning.{document01, gasOf, totalMass}
 use Rattle.gas.specs.Heat.{specificContent}
 use Rattle.gas.specs.Answers.{heatOrder}
 use Rattle.marking.specs.declared.StationFigure.{StationFigure}

@@ -7,7 +7,7 @@ use lib.IntN.{ℤ}
 use lib.Ieee.{Float, binary64, sub}
 use Rattle.refusal.specs.Refusals.{Told, gives, refused}
 use Rattle.refusal.specs.RefusalsLaws.{one-told}
-use Rattle.gas.specs.declared.Charge.{Charge}
+use Rattle.burning.specs.declared.Charge.{Charge}
 use Rattle.marking.specs.Marking.{marked, paperMark}
 use Rattle.marking.specs.Figures.{stationTold, paperStation}
 use Rattle.marking.specs.declared.StationFigure.{StationFigure}

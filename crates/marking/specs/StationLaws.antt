@@ -10,9 +10,9 @@ use Rattle.refusal.specs.Refusals.{gives}
 use Rattle.refusal.specs.RefusalsLaws.{values-given}
 use Rattle.refusal.specs.OrdersLaws.{clear-order, given}
 use Rattle.air.specs.Limits.{coldest, hottest}
-use Rattle.gas.specs.declared.Charge.{Charge}
-use Rattle.gas.specs.declared.Gas.{Gas}
-use Rattle.gas.specs.Burning.{document01, gasOf, totalMass}
+use Rattle.burning.specs.declared.Charge.{Charge}
+use Rattle.burning.specs.declared.Gas.{Gas}
+use Rattle.burning.specs.Burning.{document01, gasOf, totalMass}
 use Rattle.gas.specs.Heat.{specificContent}
 use Rattle.gas.specs.Answers.{heatOrder}
 use Rattle.gas.specs.AnswersLaws.{Readable, readable-of}

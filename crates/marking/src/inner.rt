@@ -1,7 +1,7 @@
 // The inner door of marking: a station in whole numbers over a sheet that was judged before, for a program that keeps one sheet for many requests.
 use air::Millikelvin;
-use gas::Charge;
-use gas::inner::Admitted;
+use burning::Charge;
+use burning::inner::Admitted;
 use refusal::Refusal;
 ghost use mathlib.Core.Path.{_≡_};
 ghost use Rattle.rows.specs.Rows.{rowsH};
@@ -34,7 +34,7 @@ pub fn station_judged(
     match gas::inner::admit_at(charge, t) {
         Admitted::Burning(gas) => {
             let specific = gas::inner::specific_at(gas, t, sheet, air);
-            let mass = signed::of_u64(gas::inner::total_mass(gas));
+            let mass = signed::of_u64(burning::inner::total_mass(gas));
             NumbersAnswer::Are(StationNumbers {
                 mk: t.0,
                 specific,

@@ -7,7 +7,7 @@ mod exact;
 pub mod inner;
 
 use air::Millikelvin;
-use gas::Charge;
+use burning::Charge;
 use inner::NumbersAnswer;
 use refusal::Refusal;
 use sheet::SheetAnswer;

@@ -11,9 +11,9 @@ use Rattle.refusal.specs.declared.Refusal.{Refusal}
 use Rattle.refusal.specs.declared.Refusal.the-variants.{Plain, At}
 use Rattle.refusal.specs.Refusals.{Told, gives, refused, numberOf}
 use Rattle.air.specs.Inverse.{Found}
-use Rattle.gas.specs.declared.Charge.{Charge}
-use Rattle.gas.specs.declared.Products.{Products}
-use Rattle.gas.specs.Burning.{chargeIn}
+use Rattle.burning.specs.declared.Charge.{Charge}
+use Rattle.burning.specs.declared.Products.{Products}
+use Rattle.burning.specs.Burning.{chargeIn}
 use Rattle.walk.specs.Walk.{Course, done, stopped}
 use Rattle.marking.specs.declared.Typed.{Typed}
 use Rattle.marking.specs.declared.Typed.the-variants.{Kelvins, Content, Blank}

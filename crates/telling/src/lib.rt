@@ -3,8 +3,8 @@
 use air::Millikelvin;
 use air::PsiAnswer;
 use air::Reading;
-use gas::BurnAnswer;
-use gas::Charge;
+use burning::BurnAnswer;
+use burning::Charge;
 use gas::HeatAnswer;
 use gas::SpecificAnswer;
 use gas::TemperatureAnswer;
@@ -18,7 +18,8 @@ ghost use mathlib.Core.Path.{_≡_};
 ghost use Rattle.refusal.specs.Refusals.{refused};
 ghost use Rattle.air.specs.Answers.{paperReading, paperPsi};
 ghost use Rattle.sheet.specs.Answers.{paperSheet};
-ghost use Rattle.gas.specs.Answers.{paperBurn, paperHeat, paperSpecific, paperTemperature};
+ghost use Rattle.burning.specs.Answers.{paperBurn};
+ghost use Rattle.gas.specs.Answers.{paperHeat, paperSpecific, paperTemperature};
 ghost use Rattle.walk.specs.Walk.{paperWalk};
 ghost use Rattle.marking.specs.Marking.{paperMark};
 ghost use Rattle.marking.specs.Figures.{paperStation};
@@ -349,7 +350,7 @@ pub fn tell_walk(answer: WalkAnswer) -> WalkTold
         WalkAnswer::Done(steps, charge, t) => tell_begun(0, steps, charge, t),
         WalkAnswer::Stopped(steps, number, charge, t) => tell_begun(number, steps, charge, t),
         WalkAnswer::Refused(r) => {
-            let none = gas::inner::charge_in(&[0i64; gas::inner::CHARGE_NUMBERS]);
+            let none = burning::inner::charge_in(&[0i64; burning::inner::CHARGE_NUMBERS]);
             tell_course(tell_refusal(r), 0, 0, none, Millikelvin(0))
         }
     }

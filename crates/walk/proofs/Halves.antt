@@ -21,12 +21,12 @@ use Rattle.air.specs.HalvingLaws.{length-eleven}
 use Rattle.air.specs.Inverse.{temperature, rest, looks, unreached, Found, found, written}
 use Rattle.air.specs.InverseLaws.{looks-most, temperature-least, temperature-most}
 use Rattle.sheet.specs.Sheet.{Accepted}
-use Rattle.gas.specs.declared.Gas.{Gas}
+use Rattle.burning.specs.declared.Gas.{Gas}
 use Rattle.gas.specs.declared.Heat.{Heat}
 use Rattle.gas.specs.declared.TemperatureAnswer.the-variants.{At, Refused as NotFound}
-use Rattle.gas.specs.Burning.{document01, Burns, lean}
-use Rattle.gas.specs.Fuel.{wrongFuel}
-use Rattle.gas.specs.FuelLaws.{mass-most}
+use Rattle.burning.specs.Burning.{document01, Burns, lean}
+use Rattle.burning.specs.Fuel.{wrongFuel}
+use Rattle.burning.specs.FuelLaws.{mass-most}
 use Rattle.gas.specs.Heat.{gasHeat}
 use Rattle.gas.specs.Answers.{Inverted}
 use Rattle.refusal.specs.OrdersLaws.{stopped-first}

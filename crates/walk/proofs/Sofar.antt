@@ -12,7 +12,7 @@ use Rattle.refusal.specs.Refusals.{Told, gives, refused, numberOf}
 use Rattle.air.specs.Limits.{lookPlaces}
 use Rattle.air.specs.Halving.{eleven}
 use Rattle.gas.specs.declared.Heat.{Heat}
-use Rattle.gas.specs.Burning.{document01}
+use Rattle.burning.specs.Burning.{document01}
 use Rattle.walk.specs.Limits.{stepNumbers}
 use Rattle.walk.specs.declared.WalkAnswer.{WalkAnswer}
 use Rattle.walk.specs.declared.stepping.Standing.{Standing}

@@ -20,12 +20,13 @@ use Rattle.sheet.specs.Sheet.{Accepted}
 use Rattle.sheet.specs.Answers.{sheetLines, judgeTold, paperSheet}
 use Rattle.sheet.specs.AnswersLaws.{past-sheet, stopped-by-sheet}
 use Rattle.sheet.specs.declared.SheetAnswer.the-variants.{Refused as NotGood}
-use Rattle.gas.specs.declared.Charge.{Charge}
-use Rattle.gas.specs.declared.Gas.{Gas}
-use Rattle.gas.specs.Burning.{document01, gasOf, Burns}
-use Rattle.gas.specs.BurningLaws.{burns-of}
+use Rattle.burning.specs.declared.Charge.{Charge}
+use Rattle.burning.specs.declared.Gas.{Gas}
+use Rattle.burning.specs.Burning.{document01, gasOf, Burns}
+use Rattle.burning.specs.BurningLaws.{burns-of}
 use Rattle.refusal.specs.OrdersLaws.{stopped-first, clear-left, clear-right}
-use Rattle.gas.specs.Answers.{chargeLines, temperatureLines}
+use Rattle.burning.specs.Answers.{chargeLines}
+use Rattle.gas.specs.Answers.{temperatureLines}
 use Rattle.walk.specs.Limits.{stepNumbers, mostSteps, mostNumbers}
 use Rattle.walk.specs.declared.WalkAnswer.{WalkAnswer}
 use Rattle.walk.specs.declared.WalkAnswer.the-variants.{Refused}

@@ -12,8 +12,8 @@ use Rattle.refusal.specs.Refusals.{Told, gives, refused, Line, condition, first
 use Rattle.refusal.specs.BoolLaws.{by-bool}
 use Rattle.refusal.specs.RefusalsLaws.{refusal-given, demand-1}
 use Rattle.refusal.specs.OrdersLaws.{one-order}
-use Rattle.gas.specs.declared.Charge.{Charge}
-use Rattle.gas.specs.Burning.{Weights, chargeOf}
+use Rattle.burning.specs.declared.Charge.{Charge}
+use Rattle.burning.specs.Burning.{Weights, chargeOf}
 use Rattle.gas.specs.Heat.{gasHeat}
 use Rattle.air.specs.Inverse.{unreached}
 use Rattle.walk.specs.Limits.{stepNumbers}

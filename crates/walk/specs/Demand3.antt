@@ -11,9 +11,9 @@ use Rattle.signed.specs.Zed.{up}
 use Rattle.air.specs.Limits.{lookPlaces}
 use Rattle.air.specs.Halving.{eleven}
 use Rattle.air.specs.Inverse.{temperature, rest, looks}
-use Rattle.gas.specs.declared.Charge.{Charge}
-use Rattle.gas.specs.declared.Gas.{Gas}
-use Rattle.gas.specs.Burning.{Weights, gasOf}
+use Rattle.burning.specs.declared.Charge.{Charge}
+use Rattle.burning.specs.declared.Gas.{Gas}
+use Rattle.burning.specs.Burning.{Weights, gasOf}
 use Rattle.gas.specs.Heat.{gasHeat, contentAbove15}
 use Rattle.walk.specs.declared.WalkAnswer.{WalkAnswer}
 use Rattle.walk.specs.declared.WalkAnswer.the-variants.{Done, Stopped}

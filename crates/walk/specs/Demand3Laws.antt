@@ -15,14 +15,14 @@ use Rattle.air.specs.Halving.{eleven}
 use Rattle.air.specs.HalvingLaws.{length-eleven}
 use Rattle.air.specs.Inverse.{rest, looks}
 use Rattle.air.specs.InverseLaws.{looks-most}
-use Rattle.gas.specs.declared.Charge.{Charge}
-use Rattle.gas.specs.declared.Gas.{Gas}
+use Rattle.burning.specs.declared.Charge.{Charge}
+use Rattle.burning.specs.declared.Gas.{Gas}
 use Rattle.sheet.specs.Sheet.{Accepted}
 use Rattle.sheet.specs.Answers.{sheetLines}
 use Rattle.sheet.specs.AnswersLaws.{accepted-of-told}
-use Rattle.gas.specs.Burning.{Weights, Sound, document01, chargeOf}
-use Rattle.gas.specs.BurningLaws.{document01-sound}
-use Rattle.gas.specs.FuelLaws.{limits-with}
+use Rattle.burning.specs.Burning.{Weights, Sound, document01, chargeOf}
+use Rattle.burning.specs.BurningLaws.{document01-sound}
+use Rattle.burning.specs.FuelLaws.{limits-with}
 use Rattle.gas.specs.HeatLaws.{gas-rises}
 use Rattle.gas.specs.Heat.{gasHeat}
 use Rattle.walk.specs.Limits.{stepNumbers}

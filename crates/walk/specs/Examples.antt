@@ -20,15 +20,15 @@ use Rattle.air.specs.Inverse.{looks, Found}
 use Rattle.sheet.specs.Sheet.{Accepted}
 use Rattle.sheet.specs.Answers.{sheetLines}
 use Rattle.sheet.specs.AnswersLaws.{past-sheet}
-use Rattle.gas.specs.declared.Charge.{Charge}
-use Rattle.gas.specs.declared.Gas.{Gas}
-use Rattle.gas.specs.Burning.{document01, beyond, lean, oxygenUsed}
-use Rattle.gas.specs.Fuel.{noFuel}
+use Rattle.burning.specs.declared.Charge.{Charge}
+use Rattle.burning.specs.declared.Gas.{Gas}
+use Rattle.burning.specs.Burning.{document01, beyond, lean, oxygenUsed}
+use Rattle.burning.specs.Fuel.{noFuel}
 use Rattle.gas.specs.Heat.{gasHeat}
 use Rattle.gas.specs.Examples.{charge, at, air-alone, part-found}
 use Rattle.air.specs.declared.Millikelvin.{Millikelvin}
 use Rattle.refusal.specs.declared.Refusal.{Refusal}
-use Rattle.gas.specs.BurningLaws.{document01-sound}
+use Rattle.burning.specs.BurningLaws.{document01-sound}
 use Rattle.walk.specs.declared.Step.{Step}
 use Rattle.walk.specs.declared.WalkAnswer.{WalkAnswer}
 use Rattle.walk.specs.declared.WalkAnswer.the-variants.{Stopped, Refused}

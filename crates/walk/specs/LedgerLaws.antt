@@ -18,10 +18,11 @@ use Rattle.rows.specs.Limits.{firstKelvin, lastKelvin}
 use Rattle.air.specs.Limits.{fifteenDegrees, coldest, hottest}
 use Rattle.air.specs.Inverse.{temperature, rest}
 use Rattle.air.specs.InverseLaws.{temperature-least, temperature-most, rest-least, next-exceeds}
-use Rattle.gas.specs.declared.Gas.{Gas}
+use Rattle.burning.specs.declared.Gas.{Gas}
 use Rattle.sheet.specs.Sheet.{Accepted}
-use Rattle.gas.specs.Burning.{Weights, Sound, Burns}
-use Rattle.gas.specs.Heat.{massesOf, heatSlope, gasHeat}
+use Rattle.burning.specs.Burning.{Weights, Sound, Burns}
+use Rattle.burning.specs.Burning.{massesOf}
+use Rattle.gas.specs.Heat.{heatSlope, gasHeat}
 use Rattle.gas.specs.HeatLaws.{heat-line, air-outweighs}
 use Rattle.walk.specs.declared.Step.{Step}
 use Rattle.walk.specs.Step.{State, Out, held, newGas, stepHeat, askedOf, judge}

@@ -12,9 +12,9 @@ use Rattle.refusal.specs.Refusals.{Told, gives, refused, andThen, Clear, clear,
 use Rattle.refusal.specs.RefusalsLaws.{gives-clear}
 use Rattle.air.specs.Limits.{coldest, hottest}
 use Rattle.air.specs.Inverse.{unreached}
-use Rattle.gas.specs.declared.Gas.{Gas}
-use Rattle.gas.specs.Burning.{Weights, lean}
-use Rattle.gas.specs.Fuel.{wrongFuel}
+use Rattle.burning.specs.declared.Gas.{Gas}
+use Rattle.burning.specs.Burning.{Weights, lean}
+use Rattle.burning.specs.Fuel.{wrongFuel}
 use Rattle.gas.specs.Heat.{gasHeat}
 use Rattle.walk.specs.declared.Step.{Step}
 use Rattle.walk.specs.Step.{State, Out, held, newGas, wrongHeat, askLines, askedOf, asked, outOf, sought, judge}

@@ -9,9 +9,9 @@ use Rattle.signed.specs.Zed.{outside}
 use Rattle.refusal.specs.Refusals.{Told, Line, _when_, first, andThen}
 use Rattle.air.specs.Limits.{fifteenDegrees}
 use Rattle.air.specs.Inverse.{temperature, rest, looks, unreached}
-use Rattle.gas.specs.declared.Gas.{Gas}
-use Rattle.gas.specs.Burning.{Weights, lean}
-use Rattle.gas.specs.Fuel.{fuelIn, numbersOfFuel, withFuel, wrongFuel, massAdded}
+use Rattle.burning.specs.declared.Gas.{Gas}
+use Rattle.burning.specs.Burning.{Weights, lean}
+use Rattle.burning.specs.Fuel.{fuelIn, numbersOfFuel, withFuel, wrongFuel, massAdded}
 use Rattle.gas.specs.Heat.{gasHeat, contentAbove15}
 use Rattle.walk.specs.declared.Step.{Step}
 

@@ -11,10 +11,11 @@ use Rattle.signed.specs.Zed.{up}
 use Rattle.refusal.specs.Refusals.{Told, gives, refused, Line, _when_, first, lineNumber, First, numberOf}
 use Rattle.air.specs.Limits.{lookPlaces}
 use Rattle.air.specs.Halving.{eleven}
-use Rattle.gas.specs.declared.Charge.{Charge}
-use Rattle.gas.specs.Burning.{Weights, document01, gasOf, chargeOf}
-use Rattle.gas.specs.Fuel.{noFuel}
-use Rattle.gas.specs.Answers.{chargeLines, temperatureLines}
+use Rattle.burning.specs.declared.Charge.{Charge}
+use Rattle.burning.specs.Burning.{Weights, document01, gasOf, chargeOf}
+use Rattle.burning.specs.Fuel.{noFuel}
+use Rattle.burning.specs.Answers.{chargeLines}
+use Rattle.gas.specs.Answers.{temperatureLines}
 use Rattle.walk.specs.Limits.{stepNumbers, mostNumbers}
 use Rattle.walk.specs.declared.WalkAnswer.{WalkAnswer}
 use Rattle.walk.specs.declared.WalkAnswer.the-variants.{Done, Stopped, Refused}

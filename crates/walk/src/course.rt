@@ -5,7 +5,7 @@ use crate::stepping;
 use crate::stepping::Standing;
 use crate::stepping::Stepped;
 use air::Millikelvin;
-use gas::Gas;
+use burning::Gas;
 ghost use mathlib.Core.Path.{_≡_};
 ghost use Prim.Native.Nat.{_+_, _*_, _≤_};
 ghost use lib.ListN.{length};
@@ -16,7 +16,7 @@ ghost use Rattle.rows.specs.Rows.{rowsH};
 ghost use Rattle.refusal.specs.Refusals.{gives};
 ghost use Rattle.air.specs.Limits.{lookPlaces, coldest, hottest};
 ghost use Rattle.sheet.specs.Sheet.{Accepted};
-ghost use Rattle.gas.specs.Burning.{document01, Limits, Burns};
+ghost use Rattle.burning.specs.Burning.{document01, Limits, Burns};
 ghost use Rattle.walk.specs.Limits.{stepNumbers, mostSteps};
 ghost use Rattle.walk.specs.Lists.{lists};
 ghost use Rattle.walk.specs.Walk.{ended, cut, courseOf, paperWalk, run, stepsOf, Walks};
@@ -42,7 +42,7 @@ fn tell_done(n: usize, st: Standing) -> WalkAnswer
 {
     let gas = st.gas;
     let t = st.t;
-    WalkAnswer::Done(n as u32, gas::inner::charge_of(gas), t)
+    WalkAnswer::Done(n as u32, burning::inner::charge_of(gas), t)
 }
 
 // A walk stopped at its step n.
@@ -52,7 +52,7 @@ fn tell_stopped(n: usize, number: u32, st: Standing) -> WalkAnswer
 {
     let gas = st.gas;
     let t = st.t;
-    WalkAnswer::Stopped(n as u32, number, gas::inner::charge_of(gas), t)
+    WalkAnswer::Stopped(n as u32, number, burning::inner::charge_of(gas), t)
 }
 
 // The step at an index of the list.
@@ -62,7 +62,7 @@ fn step_at(steps: &[i64], i: usize) -> Step
 {
     let at = crate::STEP_NUMBERS * i;
     Step {
-        fuel: gas::fuelling::fuel_in(&[steps[at], steps[at + 1]]),
+        fuel: burning::fuelling::fuel_in(&[steps[at], steps[at + 1]]),
         value: steps[at + 2],
         heat: steps[at + 3],
     }

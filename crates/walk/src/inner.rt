@@ -2,8 +2,8 @@
 use crate::WalkAnswer;
 use crate::course;
 use air::Millikelvin;
-use gas::Charge;
-use gas::inner::Admitted;
+use burning::Charge;
+use burning::inner::Admitted;
 use refusal::Refusal;
 ghost use mathlib.Core.Path.{_≡_};
 ghost use mathlib.Core.List.{[]};

@@ -6,8 +6,8 @@ pub mod inner;
 mod stepping;
 
 use air::Millikelvin;
-use gas::Charge;
-use gas::Fuel;
+use burning::Charge;
+use burning::Fuel;
 use refusal::Refusal;
 use sheet::SheetAnswer;
 ghost use Rattle.sheet.specs.Answers.{sheetLines};

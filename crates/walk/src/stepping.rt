@@ -2,10 +2,10 @@
 // the looks. Every number of a step is tested before it is worked with, and nothing is written before the step is sure.
 use crate::Step;
 use air::Millikelvin;
-use gas::Gas;
+use burning::Gas;
+use burning::fuelling::Fuelled;
 use gas::Heat;
 use gas::TemperatureAnswer;
-use gas::fuelling::Fuelled;
 ghost use mathlib.Core.Path.{_≡_};
 ghost use mathlib.Core.Bool.{false};
 ghost use Prim.Native.Nat.{_≤_};
@@ -16,8 +16,8 @@ ghost use mir.Val.{SFits};
 ghost use Rattle.rows.specs.Rows.{rowsH};
 ghost use Rattle.air.specs.Limits.{lookPlaces};
 ghost use Rattle.sheet.specs.Sheet.{Accepted};
-ghost use Rattle.gas.specs.Burning.{document01, Limits};
-ghost use Rattle.gas.specs.Fuel.{wrongFuel};
+ghost use Rattle.burning.specs.Burning.{document01, Limits};
+ghost use Rattle.burning.specs.Fuel.{wrongFuel};
 ghost use Rattle.walk.specs.Step.{stepHeat, wrongHeat, asked, held, judge};
 ghost use Rattle.walk.specs.inner.Work.{stateOf, Stands, InReach, Asks, standingOf, StepGives};
 
@@ -67,7 +67,7 @@ fn step_heat(gas: Gas, p: Step) -> Heat
     ensures { λ r. ⌜ r .0 ≡ stepHeat document01 p ⌝ }
 {
     let fuel = p.fuel;
-    let burn = signed::of_u64(gas::fuelling::mass_added(gas, fuel) * 1000) * p.value;
+    let burn = signed::of_u64(burning::fuelling::mass_added(gas, fuel) * 1000) * p.value;
     Heat(burn + p.heat)
 }
 
@@ -86,14 +86,14 @@ fn asked_of(st: Standing, p: Step, sheet: &[u32], air: &[u32; rows::ROWS]) -> As
 {
     let old = st.gas;
     let fuel = p.fuel;
-    match gas::fuelling::add_fuel(old, fuel) {
-        Fuelled::Beyond => Ask::Refused(gas::LIMIT),
+    match burning::fuelling::add_fuel(old, fuel) {
+        Fuelled::Beyond => Ask::Refused(burning::LIMIT),
         Fuelled::To(gas) => {
             if wrong_heat(p) {
                 return Ask::Refused(HEAT);
             }
-            if !gas::inner::lean(gas) {
-                return Ask::Refused(gas::RICH);
+            if !burning::inner::lean(gas) {
+                return Ask::Refused(burning::RICH);
             }
             let fifteen = gas::inner::heat_at(gas, Millikelvin(air::FIFTEEN_DEGREES), sheet, air);
             let target = target(st.heat, st.fifteen, step_heat(old, p), fifteen);

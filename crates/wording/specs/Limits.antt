@@ -1,7 +1,7 @@
 -- The most bytes that each text of an answer has, from the widths of machine words alone: a number of 64 bits has at most 20 bytes in decimal, its minus sign counted, and one of
 -- 32 bits at most 10 (specs/DigitsLaws.antt of text).
 use Prim.Native.Nat.{ℕ, _+_, _*_}
-use Rattle.gas.specs.Burning.{chargeNumbers}
+use Rattle.burning.specs.Burning.{chargeNumbers}
 
 -- a tab and a number of 64 bits
 abbrev pub field : ℕ

@@ -20,9 +20,9 @@ use Rattle.air.specs.Inverse.{fits, looks, Found, written}
 use Rattle.air.specs.declared.PsiAnswer.{PsiAnswer}
 use Rattle.refusal.specs.Refusals.{Told, gives, refused}
 use Rattle.air.specs.Answers.{PsiInverse, paperPsi, psiInverseTold, psiValue}
-use Rattle.gas.specs.declared.Charge.{Charge}
+use Rattle.burning.specs.declared.Charge.{Charge}
 use Rattle.gas.specs.declared.TemperatureAnswer.{TemperatureAnswer}
-use Rattle.gas.specs.Burning.{document01, gasOf}
+use Rattle.burning.specs.Burning.{document01, gasOf}
 use Rattle.gas.specs.Heat.{gasHeat}
 use Rattle.gas.specs.Answers.{paperTemperature, temperatureTold, Temperature}
 use Rattle.wording.specs.Texts.{fieldsText, used, inverseText}

@@ -3,9 +3,9 @@
 use air::Millikelvin;
 use air::PsiAnswer;
 use air::Reading;
-use gas::Charge;
+use burning::Charge;
+use burning::Products;
 use gas::HeatAnswer;
-use gas::Products;
 use gas::SpecificAnswer;
 use gas::TemperatureAnswer;
 use marking::MarkAnswer;
@@ -228,7 +228,7 @@ fn put_state(charge: Charge, t: Millikelvin, out: &mut [u8], at: usize) -> usize
     requires { ⌜ at ≤ length (now out) ⌝ }
     ensures { λ r. ⌜ Puts stateRoom (stateText charge (t .0)) (now (out .entry)) at r (now (out .exit)) ⌝ }
 {
-    let numbers = gas::inner::numbers_of(charge);
+    let numbers = burning::inner::numbers_of(charge);
     let next = put_numbers(&numbers, out, at);
     put_signed(t.0, out, next)
 }

@@ -10,7 +10,7 @@ use lib.Seq.{sets}
 use Rattle.fields.specs.Fields.{holdsReturn, fieldsOf, fourOf}
 use Rattle.fields.specs.declared.Four.{Four}
 use Rattle.fields.specs.declared.Four.the-variants.{Are, Not}
-use Rattle.gas.specs.Burning.{chargeNumbers, chargeIn}
+use Rattle.burning.specs.Burning.{chargeNumbers, chargeIn}
 use Rattle.sheet.specs.declared.SheetAnswer.{SheetAnswer}
 use Rattle.walk.specs.Limits.{stepNumbers}
 use Rattle.console.specs.Walks.{walkTold, printedWalk}

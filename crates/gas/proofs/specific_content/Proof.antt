@@ -4,8 +4,9 @@ use mathlib.Core.Path.{sym, ap, _∙_}
 use mathlib.Core.List.{_++_}
 use Rattle.sheet.specs.Answers.{paperSheet}
 use Rattle.sheet.specs.AnswersLaws.{accepted-of-told, stopped-by-sheet}
-use Rattle.gas.specs.Answers.{chargeLines, temperatureLines}
-use Rattle.gas.specs.Burning.{document01}
+use Rattle.burning.specs.Answers.{chargeLines}
+use Rattle.gas.specs.Answers.{temperatureLines}
+use Rattle.burning.specs.Burning.{document01}
 use Rattle.gas.proofs.specific_content.Statement.{statement}
 use Rattle.gas.proofs.specific_content.Tie as tie
 

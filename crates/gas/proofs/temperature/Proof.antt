@@ -9,9 +9,10 @@ use Rattle.air.specs.Limits.{lookPlaces}
 use Rattle.sheet.specs.Answers.{paperSheet}
 use Rattle.sheet.specs.AnswersLaws.{accepted-of-told, stopped-by-sheet}
 use Rattle.gas.specs.AnswersLaws.{stopped-told}
-use Rattle.gas.specs.Answers.{chargeLines, searchOrder}
+use Rattle.burning.specs.Answers.{chargeLines}
+use Rattle.gas.specs.Answers.{searchOrder}
 use Rattle.gas.specs.Heat.{gasHeat}
-use Rattle.gas.specs.Burning.{document01, gasOf}
+use Rattle.burning.specs.Burning.{document01, gasOf}
 use Rattle.gas.proofs.temperature.Statement.{statement}
 use Rattle.gas.proofs.temperature.Tie as tie
 

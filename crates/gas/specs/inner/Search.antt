@@ -11,7 +11,7 @@ use Rattle.rows.specs.Limits.{lastKelvin}
 use Rattle.air.specs.Limits.{lookPlaces}
 use Rattle.air.specs.Halving.{eleven}
 use Rattle.air.specs.Inverse.{fits, temperature, rest, looks}
-use Rattle.gas.specs.declared.Masses.{Masses}
+use Rattle.burning.specs.declared.Masses.{Masses}
 use Rattle.gas.specs.declared.TemperatureAnswer.{TemperatureAnswer}
 use Rattle.gas.specs.declared.TemperatureAnswer.the-variants.{At}
 use Rattle.gas.specs.Heat.{heatOf}

@@ -8,7 +8,7 @@ use lib.Signed.{_≤ℤ_}
 use Rattle.signed.specs.Zed.{up}
 use Rattle.rows.specs.Rows.{rowsH}
 use Rattle.sheet.specs.Sheet.{Accepted}
-use Rattle.gas.specs.declared.Masses.{Masses}
+use Rattle.burning.specs.declared.Masses.{Masses}
 
 -- the masses of a charge within its limits that is lean: air outweighs four times the oxygen used
 pub record Sized (m : Masses) : Type 0 where

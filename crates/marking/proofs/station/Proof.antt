@@ -12,8 +12,9 @@ use Rattle.refusal.specs.Refusals.{gives}
 use Rattle.refusal.specs.OrdersLaws.{told-through, stopped-first}
 use Rattle.sheet.specs.Answers.{paperSheet}
 use Rattle.sheet.specs.AnswersLaws.{accepted-of-told, stopped-by-sheet}
-use Rattle.gas.specs.Burning.{document01, gasOf}
-use Rattle.gas.specs.Answers.{chargeLines, temperatureLines, heatOrder}
+use Rattle.burning.specs.Burning.{document01, gasOf}
+use Rattle.burning.specs.Answers.{chargeLines}
+use Rattle.gas.specs.Answers.{temperatureLines, heatOrder}
 use Rattle.marking.specs.declared.inner.StationNumbers.{StationNumbers}
 use Rattle.marking.specs.Figures.{figuresOf, numbersOf, numbersTold, paperNumbers}
 use Rattle.marking.specs.FiguresLaws.{abs-parts}

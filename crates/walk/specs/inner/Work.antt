@@ -12,8 +12,8 @@ use Rattle.air.specs.Limits.{fifteenDegrees, coldest, hottest}
 use Rattle.air.specs.declared.Millikelvin.{Millikelvin}
 use Rattle.air.specs.Halving.{eleven}
 use Rattle.gas.specs.declared.Heat.{Heat}
-use Rattle.gas.specs.declared.Gas.{Gas}
-use Rattle.gas.specs.Burning.{document01, Burns}
+use Rattle.burning.specs.declared.Gas.{Gas}
+use Rattle.burning.specs.Burning.{document01, Burns}
 use Rattle.gas.specs.Heat.{gasHeat}
 use Rattle.walk.specs.Limits.{stepNumbers}
 use Rattle.walk.specs.declared.stepping.Standing.{Standing}

@@ -7,8 +7,8 @@ use lib.IntN.{ℤ, pos}
 use lib.ListN.{replicate}
 use Rattle.fields.specs.Fields.{fieldsFrom, valuesOf}
 use Rattle.fields.specs.FieldsLaws.{exactly, not-exactly}
-use Rattle.gas.specs.Burning.{document01, chargeNumbers, chargeIn}
-use Rattle.gas.specs.Answers.{burnTold}
+use Rattle.burning.specs.Burning.{document01, chargeNumbers, chargeIn}
+use Rattle.burning.specs.Answers.{burnTold}
 use Rattle.wording.specs.Texts.{burntText}
 use Rattle.console.specs.Requests.{misfitText}
 use Rattle.console.proofs.replies.reply_burn.Statement.{statement}

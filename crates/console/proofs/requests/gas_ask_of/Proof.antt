@@ -12,7 +12,7 @@ use Rattle.fields.specs.Fields.{fieldsFrom, valuesOf}
 use Rattle.fields.specs.FieldsLaws.{exactly, not-exactly}
 use Rattle.sheet.specs.declared.SheetAnswer.{SheetAnswer}
 use Rattle.sheet.specs.declared.SheetAnswer.the-variants.{Good, Refused as SheetRefused}
-use Rattle.gas.specs.Burning.{chargeNumbers, chargeIn}
+use Rattle.burning.specs.Burning.{chargeNumbers, chargeIn}
 use Rattle.console.specs.declared.requests.GasAsk.the-variants.{Misfit}
 use Rattle.console.specs.Limits.{startNumbers}
 use Rattle.console.specs.Requests.{askOf, gasAskOf}

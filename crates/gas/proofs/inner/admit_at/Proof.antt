@@ -3,8 +3,9 @@ use borrow.Author.Needs.{needs}
 use mathlib.Core.Path.{_≡_, refl, sym, ap, _∙_}
 use Rattle.refusal.specs.Refusals.{gives, first}
 use Rattle.refusal.specs.OrdersLaws.{stopped-first, passed, given}
-use Rattle.gas.specs.Answers.{paperGas, chargeLines, temperatureLines}
-use Rattle.gas.specs.Burning.{document01, gasOf}
+use Rattle.burning.specs.Answers.{paperGas, chargeLines}
+use Rattle.gas.specs.Answers.{temperatureLines}
+use Rattle.burning.specs.Burning.{document01, gasOf}
 use Rattle.gas.proofs.inner.admit_at.Statement.{statement}
 use Rattle.gas.proofs.inner.admit_at.Tie as tie
 

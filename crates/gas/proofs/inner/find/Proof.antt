@@ -13,7 +13,7 @@ use Rattle.air.specs.Limits.{coldest, hottest}
 use Rattle.gas.specs.AnswersLaws.{unreached-told, reached-told}
 use Rattle.gas.specs.inner.Sizes.{Ready}
 use Rattle.gas.specs.Heat.{gasHeat}
-use Rattle.gas.specs.Burning.{document01}
+use Rattle.burning.specs.Burning.{document01}
 use Rattle.gas.specs.declared.TemperatureAnswer.the-variants.{Refused}
 use Rattle.gas.proofs.Lines.{ready}
 use Rattle.gas.proofs.inner.find.Statement.{statement}

@@ -6,10 +6,11 @@ use Rattle.refusal.specs.Refusals.{first}
 use Rattle.signed.specs.Zed.{up}
 use Rattle.refusal.specs.OrdersLaws.{told-through, stopped-first}
 use Rattle.gas.specs.AnswersLaws.{readable-of, past-heat}
-use Rattle.gas.specs.Answers.{paperGas, heatOrder}
+use Rattle.burning.specs.Answers.{paperGas}
+use Rattle.gas.specs.Answers.{heatOrder}
 use Rattle.gas.specs.Heat.{gasHeat}
-use Rattle.gas.specs.Burning.{document01, gasOf}
-use Rattle.gas.specs.declared.Gas.{Gas}
+use Rattle.burning.specs.Burning.{document01, gasOf}
+use Rattle.burning.specs.declared.Gas.{Gas}
 use Rattle.gas.proofs.inner.gas_heat_judged.Statement.{statement}
 use Rattle.gas.proofs.inner.gas_heat_judged.Tie as tie
 

@@ -6,9 +6,10 @@ use Rattle.refusal.specs.declared.Refusal.the-variants.{Plain}
 use Rattle.refusal.specs.Refusals.{gives, first}
 use Rattle.refusal.specs.OrdersLaws.{given}
 use Rattle.gas.specs.AnswersLaws.{searchable-of, past-search, short-search, stopped-told, passed-told}
-use Rattle.gas.specs.Answers.{paperGas, searchOrder}
+use Rattle.burning.specs.Answers.{paperGas}
+use Rattle.gas.specs.Answers.{searchOrder}
 use Rattle.gas.specs.Heat.{gasHeat}
-use Rattle.gas.specs.Burning.{document01, gasOf}
+use Rattle.burning.specs.Burning.{document01, gasOf}
 use Rattle.gas.proofs.inner.temperature_judged.Statement.{statement}
 use Rattle.gas.proofs.inner.temperature_judged.Tie as tie
 

@@ -8,8 +8,9 @@ use mir.Val.{SFits}
 use Rattle.signed.specs.Zed.{back}
 use Rattle.refusal.specs.Refusals.{gives, first}
 use Rattle.refusal.specs.OrdersLaws.{told-through, stopped-first}
-use Rattle.gas.specs.Burning.{document01, gasOf}
-use Rattle.gas.specs.Answers.{paperGas, heatOrder}
+use Rattle.burning.specs.Burning.{document01, gasOf}
+use Rattle.burning.specs.Answers.{paperGas}
+use Rattle.gas.specs.Answers.{heatOrder}
 use Rattle.gas.specs.AnswersLaws.{Readable, readable-of, past-heat}
 use Rattle.gas.specs.BoundsLaws.{mass-most}
 use Rattle.marking.specs.Figures.{numbersOf}

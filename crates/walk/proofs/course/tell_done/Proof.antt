@@ -2,7 +2,7 @@
 use borrow.Author.Needs.{needs}
 use mathlib.Core.Path.{ap₂}
 use lib.IntN.{ℤ}
-use Rattle.gas.specs.declared.Charge.{Charge}
+use Rattle.burning.specs.declared.Charge.{Charge}
 use Rattle.refusal.specs.Refusals.{gives}
 use Rattle.signed.specs.Zed.{plain, apart, in-range, zed}
 use Rattle.walk.specs.Walk.{done}

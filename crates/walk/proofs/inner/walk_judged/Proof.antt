@@ -5,8 +5,8 @@ use mathlib.Core.Path.{_≡_, sym, ap, _∙_}
 use Prim.Native.Nat.{_/_}
 use native.Mathlib.Omega.{arith}
 use lib.ListN.{length}
-use Rattle.gas.specs.Answers.{paperGas}
-use Rattle.gas.specs.Burning.{document01}
+use Rattle.burning.specs.Answers.{paperGas}
+use Rattle.burning.specs.Burning.{document01}
 use Rattle.refusal.specs.Refusals.{gives}
 use Rattle.refusal.specs.declared.Refusal.the-variants.{Plain}
 use Rattle.walk.specs.Limits.{stepNumbers}

@@ -3,10 +3,10 @@ use borrow.Author.Tests.{not-true, not-false}
 use borrow.Author.Needs.{needs}
 use mathlib.Core.Bool.{Bool, false}
 use mathlib.Core.Path.{_≡_, refl, sym, ap, _∙_}
-use Rattle.gas.specs.Burning.{document01, lean, Burns}
-use Rattle.gas.specs.Fuel.{withFuel, wrongFuel}
-use Rattle.gas.specs.FuelLaws.{limits-with}
-use Rattle.gas.specs.Answers.{paperFuelled}
+use Rattle.burning.specs.Burning.{document01, lean, Burns}
+use Rattle.burning.specs.Fuel.{withFuel, wrongFuel}
+use Rattle.burning.specs.FuelLaws.{limits-with}
+use Rattle.burning.specs.Answers.{paperFuelled}
 use Rattle.refusal.specs.OrdersLaws.{line-held, line-clear}
 use Rattle.signed.specs.Zed.{inZ}
 use Rattle.walk.proofs.Halves.{asks-4, asks-7, asks-5, asks-for, in-reach}

@@ -4,7 +4,7 @@ use mathlib.Core.List.{List, []}
 use Prim.Native.Nat.{ℕ}
 use Rattle.gas.specs.Answers.{Inverted}
 use Rattle.gas.specs.Heat.{gasHeat}
-use Rattle.gas.specs.Burning.{document01, Burns}
+use Rattle.burning.specs.Burning.{document01, Burns}
 use Rattle.gas.specs.declared.TemperatureAnswer.the-variants.{At}
 use Rattle.walk.specs.inner.Work.{stateOf, AsksOf, burning, Asks}
 use Rattle.walk.specs.Step.{asked, held}

@@ -6,7 +6,7 @@ use native.Mathlib.Omega.{arith}
 use lib.IntN.{pos, _+ℤ_, _*ℤ_}
 use mir.Val.{SFits}
 use mir.Syntax.{w64}
-use Rattle.gas.specs.FuelLaws.{mass-most}
+use Rattle.burning.specs.FuelLaws.{mass-most}
 use Rattle.signed.specs.Zed.{back}
 use Rattle.walk.specs.Step.{burnHeat}
 use Rattle.walk.proofs.Asking.{burn-fits, brought-fits}
