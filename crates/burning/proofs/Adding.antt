@@ -1,5 +1,4 @@
 -- Fuel added to a gas, count by count: when a count is wrong, and that fuel is wrong where one of its counts is. Assumes nothing.
-use borrow.Author.Tests.{not-false}
 use mathlib.Core.Path.{_≡_, refl, sym, ap₂, _∙_}
 use mathlib.Core.Bool.{Bool, true, false, _||_, or-true}
 use Prim.Native.Nat.{ℕ, _+_, _<_, _≤_}
