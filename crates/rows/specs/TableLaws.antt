@@ -125,7 +125,3 @@ psi-last = refl
 pub H-most : (k : ℕ) → airH k ≤ 53789
 unfolding airH
 H-most k = omega (arith, H-last, column-most rowsH H-length H-growing k)
-
-pub psi-most : (k : ℕ) → airPsi k ≤ 133151
-unfolding airPsi
-psi-most k = omega (arith, psi-last, column-most rowsPsi psi-length psi-growing k)

@@ -274,18 +274,6 @@ bad-row-is text r (short g n f) = go (alive-of text g .0) (alive-of text g .1)
     go : (q : Place) → run step start text ≡ Going q → (wholeSheet (run step start text) ≡ false) × (rowOf (run step start text) ≡ r)
     go q e = (ap wholeSheet e ∙ ne-eqb (q .row) tableRows (λ z. n _ (sound text blank blank-full (ap wholeSheet e ∙ eq-eqb (q .row) tableRows z))), ap rowOf e ∙ (sym (feeds-at text q e) ∙ f))
 
--- ---- no first bad row is past 1,801, the row after the last
-feeds-sheet : (l : List ℕ) → feeds (sheetText l) ≡ tableRows
-unfolding sheetText
-feeds-sheet l = feeds-rows tableRows l
-
-begins-most : (text : List ℕ) → Begins text → feeds text ≤ tableRows
-begins-most text g = omega (arith, feeds-append text (g .rest), ap feeds (g .sheet .is) ∙ feeds-sheet (g .numbers))
-
-pub bad-row-most : (text : List ℕ) (r : ℕ) → FirstBad text r → r ≤ tableRows
-bad-row-most text r (byte p b rest x g n f) = omega (arith, begins-most p g, f)
-bad-row-most text r (short g n f) = omega (arith, begins-most text g, f)
-
 -- ---- document 01's cases: r good rows and no more give row r, the empty text row 0; bytes past the end give row 1,801
 rows-state : (l : List ℕ) → Numbers l → (r : ℕ) → r ≤ tableRows → run step start (rowsOf r l) ≡ rowStart r
 rows-state l g r h = sym (same-state (rowsOf r l) start blank) ∙ ap (λ (x : Filled). x .state) (rows-run l blank (g .full) blank-full (g .small) r h .to)
