@@ -87,19 +87,5 @@ returns-2 c = search needs
 
 pub over-file-spec : {M : Type 1} → statement M
 over-file-spec =
-    tie.close
-    (tie.spec
-    large-buffer-requires
-    slice-aggregate-read
-    read-requires
-    enum-known-n
-    slice-aggregate-judge
-    judge-requires
-    array-share-prefix-bytes
-    slice-aggregate-say-return
-    say-return-requires
-    serve-requires
-    enum-told
-    same-length
-    returns
-    returns-2)
+    tie.close (tie.spec large-buffer-requires slice-aggregate-read read-requires enum-known-n slice-aggregate-judge judge-requires array-share-prefix-bytes
+    slice-aggregate-say-return say-return-requires serve-requires enum-told same-length returns returns-2)

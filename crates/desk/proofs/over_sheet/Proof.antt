@@ -57,19 +57,5 @@ returns-2 c = search needs
 
 pub over-sheet-spec : {M : Type 1} → statement M
 over-sheet-spec =
-    tie.close
-    (tie.spec
-    heat-column-requires
-    psi-column-requires
-    cp-column-requires
-    sheet-requires
-    enum-told
-    slice-aggregate-judge
-    judge-requires
-    slice-aggregate-serve
-    serve-requires
-    enum-known-named
-    slice-aggregate-over-file
-    over-file-requires
-    returns
-    returns-2)
+    tie.close (tie.spec heat-column-requires psi-column-requires cp-column-requires sheet-requires enum-told slice-aggregate-judge judge-requires slice-aggregate-serve
+    serve-requires enum-known-named slice-aggregate-over-file over-file-requires returns returns-2)

@@ -45,14 +45,4 @@ returns-2 c = sym (c .before .loop .inv .1 ∙ return-none (c .before .before .a
 
 pub holds-return-spec : {M : Type 1} → statement M
 holds-return-spec =
-    tie.close
-    (tie.spec
-    Inv-loop
-    μ-loop
-    loop-holds
-    shared-slice-read-if1
-    returns
-    add-i
-    loop-less
-    loop-again
-    returns-2)
+    tie.close (tie.spec Inv-loop μ-loop loop-holds shared-slice-read-if1 returns add-i loop-less loop-again returns-2)

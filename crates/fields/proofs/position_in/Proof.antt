@@ -82,19 +82,5 @@ returns-2 c =
 
 pub position-in-spec : {M : Type 1} → statement M
 position-in-spec =
-    tie.close
-    (tie.spec
-    Inv-loop
-    μ-loop
-    loop-holds
-    field-end-requires
-    sub-same
-    part-same-start
-    part-same-end
-    same-requires
-    returns
-    add-n
-    add-from
-    loop-less
-    loop-again
+    tie.close (tie.spec Inv-loop μ-loop loop-holds field-end-requires sub-same part-same-start part-same-end same-requires returns add-n add-from loop-less loop-again
     returns-2)

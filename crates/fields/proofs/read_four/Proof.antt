@@ -62,14 +62,5 @@ returns-2 c =
 
 pub read-four-spec : {M : Type 1} → statement M
 read-four-spec =
-    tie.close
-    (tie.spec
-    slice-aggregate-read-numbers
-    read-numbers-requires
-    counted-requires
-    array-copy-out-t11
-    array-copy-out-t14
-    array-copy-out-t17
-    array-copy-out-t20
-    returns
-    returns-2)
+    tie.close (tie.spec slice-aggregate-read-numbers read-numbers-requires counted-requires array-copy-out-t11 array-copy-out-t14 array-copy-out-t17 array-copy-out-t20
+    returns returns-2)

@@ -123,24 +123,5 @@ returns-2 c =
 
 pub read-numbers-spec : {M : Type 1} → statement M
 read-numbers-spec =
-    tie.close
-    (tie.spec
-    Inv-loop
-    μ-loop
-    loop-holds
-    field-end-requires
-    sub-read-whole
-    part-read-whole-start
-    part-read-whole-end
-    read-whole-requires
-    enum-known-z
-    enum-told
-    same-length
-    returns
-    keep-requires
-    add-n
-    add-p
-    loop-less
-    loop-again
-    same-length-2
-    returns-2)
+    tie.close (tie.spec Inv-loop μ-loop loop-holds field-end-requires sub-read-whole part-read-whole-start part-read-whole-end read-whole-requires enum-known-z enum-told
+    same-length returns keep-requires add-n add-p loop-less loop-again same-length-2 returns-2)

@@ -43,11 +43,4 @@ returns-2 c =
 
 pub read-one-spec : {M : Type 1} → statement M
 read-one-spec =
-    tie.close
-    (tie.spec
-    slice-aggregate-read-numbers
-    read-numbers-requires
-    counted-requires
-    array-copy-out-t11
-    returns
-    returns-2)
+    tie.close (tie.spec slice-aggregate-read-numbers read-numbers-requires counted-requires array-copy-out-t11 returns returns-2)

@@ -50,12 +50,4 @@ returns-2 c =
 
 pub read-two-spec : {M : Type 1} → statement M
 read-two-spec =
-    tie.close
-    (tie.spec
-    slice-aggregate-read-numbers
-    read-numbers-requires
-    counted-requires
-    array-copy-out-t11
-    array-copy-out-t14
-    returns
-    returns-2)
+    tie.close (tie.spec slice-aggregate-read-numbers read-numbers-requires counted-requires array-copy-out-t11 array-copy-out-t14 returns returns-2)

@@ -53,13 +53,4 @@ returns-2 c =
 
 pub temperature-spec : {M : Type 1} → statement M
 temperature-spec =
-    tie.close
-    (tie.spec
-    heat-column-requires
-    judge-requires
-    enum-told
-    temperature-judged-requires
-    enum-known-r
-    same-length
-    returns
-    returns-2)
+    tie.close (tie.spec heat-column-requires judge-requires enum-told temperature-judged-requires enum-known-r same-length returns returns-2)

@@ -73,18 +73,5 @@ returns-5 c = rw (in-range (c .before .before), c .enum-told .given .1) refl
 
 pub mark-spec : {M : Type 1} → statement M
 mark-spec =
-    tie.close
-    (tie.spec
-    sub-inside
-    inside-requires
-    returns
-    inside-requires-2
-    returns-2
-    enum-known-typed
-    mark-number-requires
-    enum-known-typed-2
-    mark-number-requires-2
-    enum-told
-    returns-3
-    returns-4
-    returns-5)
+    tie.close (tie.spec sub-inside inside-requires returns inside-requires-2 returns-2 enum-known-typed mark-number-requires enum-known-typed-2 mark-number-requires-2
+    enum-told returns-3 returns-4 returns-5)

@@ -89,14 +89,4 @@ returns-4 c = sym (told (c .before) ∙ ap gives (c .if3 .left))
 
 pub mark-number-spec : {M : Type 1} → statement M
 mark-number-spec =
-    tie.close
-    (tie.spec
-    returns
-    fields-of-requires
-    returns-2
-    turn-requires
-    sub-lies
-    add-lies
-    lies-requires
-    returns-3
-    returns-4)
+    tie.close (tie.spec returns fields-of-requires returns-2 turn-requires sub-lies add-lies lies-requires returns-3 returns-4)

@@ -89,16 +89,5 @@ returns-3 c =
 
 pub station-spec : {M : Type 1} → statement M
 station-spec =
-    tie.close
-    (tie.spec
-    heat-column-requires
-    judge-requires
-    enum-known-r
-    enum-told
-    station-judged-requires
-    enum-known-n
-    figures-requires
-    enum-known-r-2
-    returns
-    returns-2
+    tie.close (tie.spec heat-column-requires judge-requires enum-known-r enum-told station-judged-requires enum-known-n figures-requires enum-known-r-2 returns returns-2
     returns-3)

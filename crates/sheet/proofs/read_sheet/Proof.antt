@@ -48,15 +48,4 @@ returns-3 c =
 
 pub read-sheet-spec : {M : Type 1} → statement M
 read-sheet-spec =
-    tie.close
-    (tie.spec
-    returns
-    start-requires
-    slice-aggregate-fill
-    fill-requires
-    whole-sheet-requires
-    copy-requires
-    row-of-requires
-    same-length
-    returns-2
-    returns-3)
+    tie.close (tie.spec returns start-requires slice-aggregate-fill fill-requires whole-sheet-requires copy-requires row-of-requires same-length returns-2 returns-3)

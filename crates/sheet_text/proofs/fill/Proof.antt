@@ -87,20 +87,5 @@ returns-2 c =
 
 pub fill-spec : {M : Type 1} → statement M
 fill-spec =
-    tie.close
-    (tie.spec
-    Inv-loop
-    μ-loop
-    loop-holds
-    shared-slice-read-b
-    store-place-requires
-    step-place-requires
-    enum-known-row
-    same-length
-    returns
-    enum-known-next
-    add-i
-    loop-less
-    loop-again
-    same-length-2
-    returns-2)
+    tie.close (tie.spec Inv-loop μ-loop loop-holds shared-slice-read-b store-place-requires step-place-requires enum-known-row same-length returns enum-known-next add-i
+    loop-less loop-again same-length-2 returns-2)

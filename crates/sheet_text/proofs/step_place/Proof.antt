@@ -46,12 +46,4 @@ returns-3 c =
 
 pub step-place-spec : {M : Type 1} → statement M
 step-place-spec =
-    tie.close
-    (tie.spec
-    returns
-    is-digit-requires
-    sub-step-digit
-    step-digit-requires
-    step-end-requires
-    returns-2
-    returns-3)
+    tie.close (tie.spec returns is-digit-requires sub-step-digit step-digit-requires step-end-requires returns-2 returns-3)

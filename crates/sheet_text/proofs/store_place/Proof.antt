@@ -68,19 +68,5 @@ returns-2 c =
 
 pub store-place-spec : {M : Type 1} → statement M
 store-place-spec =
-    tie.close
-    (tie.spec
-    ends-row-requires
-    cast-at
-    mul-at
-    mul-list
-    slice-write-list
-    add-list
-    mul-list-2
-    slice-write-list-2
-    add-list-2
-    mul-list-3
-    slice-write-list-3
-    same-length
-    returns
-    returns-2)
+    tie.close (tie.spec ends-row-requires cast-at mul-at mul-list slice-write-list add-list mul-list-2 slice-write-list-2 add-list-2 mul-list-3 slice-write-list-3
+    same-length returns returns-2)

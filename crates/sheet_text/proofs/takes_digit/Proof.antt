@@ -40,15 +40,4 @@ returns-2 c = simp (ne-eqb (c .before .before .before .before .args .p .field) 0
 
 pub takes-digit-spec : {M : Type 1} → statement M
 takes-digit-spec =
-    tie.close
-    (tie.spec
-    cast-begins
-    add-begins
-    cast-begins-2
-    mul-begins
-    add-begins-2
-    begins-requires
-    cast-may-follow
-    may-follow-requires
-    returns
-    returns-2)
+    tie.close (tie.spec cast-begins add-begins cast-begins-2 mul-begins add-begins-2 begins-requires cast-may-follow may-follow-requires returns returns-2)

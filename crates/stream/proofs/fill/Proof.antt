@@ -86,27 +86,5 @@ returns-4 c = search needs
 
 pub fill-spec : {M : Type 1} → statement M
 fill-spec =
-    tie.close
-    (tie.spec
-    Inv-loop
-    μ-loop
-    loop-holds
-    sub-turns
-    same-length
-    returns
-    sub-read-some
-    part-read-some-start
-    part-read-some-end
-    read-some-requires
-    enum-known-more
-    add-n
-    loop-less
-    loop-again
-    enum-told
-    same-length-2
-    returns-2
-    enum-told-2
-    same-length-3
-    returns-3
-    same-length-4
-    returns-4)
+    tie.close (tie.spec Inv-loop μ-loop loop-holds sub-turns same-length returns sub-read-some part-read-some-start part-read-some-end read-some-requires enum-known-more
+    add-n loop-less loop-again enum-told same-length-2 returns-2 enum-told-2 same-length-3 returns-3 same-length-4 returns-4)

@@ -36,14 +36,4 @@ returns-2 c =
 
 pub flush-spec : {M : Type 1} → statement M
 flush-spec =
-    tie.close
-    (tie.spec
-    enum-known-output
-    enum-told
-    returns
-    bounded-requires
-    write-first-requires
-    slice-aggregate-fail
-    fail-requires
-    after-requires
-    returns-2)
+    tie.close (tie.spec enum-known-output enum-told returns bounded-requires write-first-requires slice-aggregate-fail fail-requires after-requires returns-2)

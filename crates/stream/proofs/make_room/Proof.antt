@@ -28,12 +28,4 @@ returns-3 c = rw (c .before .before .before .output .given .1) ((λ h. absurd (o
 
 pub make-room-spec : {M : Type 1} → statement M
 make-room-spec =
-    tie.close
-    (tie.spec
-    enum-known-output
-    enum-told
-    flush-requires
-    returns
-    returns-2
-    flush-requires-2
-    returns-3)
+    tie.close (tie.spec enum-known-output enum-told flush-requires returns returns-2 flush-requires-2 returns-3)

@@ -123,35 +123,6 @@ returns-4 c = rw (c .over3 .ensures) (omega arith, c .before .before .loop .inv 
 
 pub next-line-spec : {M : Type 1} → statement M
 next-line-spec =
-    tie.close
-    (tie.spec
-    Inv-loop
-    μ-loop
-    loop-holds
-    sub-turns
-    slice-reshare-prefix-take-line
-    slice-aggregate-take-line
-    take-line-requires
-    same-length
-    same-length-2
-    returns
-    flush-requires
-    read-next-requires
-    enum-known-n
-    loop-less
-    loop-again
-    enum-told
-    last-line-requires
-    over-requires
-    same-length-3
-    same-length-4
-    returns-2
-    enum-told-2
-    over-requires-2
-    same-length-5
-    same-length-6
-    returns-3
-    over-requires-3
-    same-length-7
-    same-length-8
-    returns-4)
+    tie.close (tie.spec Inv-loop μ-loop loop-holds sub-turns slice-reshare-prefix-take-line slice-aggregate-take-line take-line-requires same-length same-length-2 returns
+    flush-requires read-next-requires enum-known-n loop-less loop-again enum-told last-line-requires over-requires same-length-3 same-length-4 returns-2 enum-told-2
+    over-requires-2 same-length-5 same-length-6 returns-3 over-requires-3 same-length-7 same-length-8 returns-4)

@@ -91,17 +91,4 @@ returns-2 c = ended (c .before .loop .inv) (omega (arith, c .loop-test))
 
 pub take-line-spec : {M : Type 1} → statement M
 take-line-spec =
-    tie.close
-    (tie.spec
-    Inv-loop
-    μ-loop
-    loop-holds
-    shared-slice-read-b
-    add-i
-    same-length
-    returns
-    push-requires
-    loop-less
-    loop-again
-    same-length-2
-    returns-2)
+    tie.close (tie.spec Inv-loop μ-loop loop-holds shared-slice-read-b add-i same-length returns push-requires loop-less loop-again same-length-2 returns-2)

@@ -78,25 +78,5 @@ returns-3 c = search needs
 
 pub write-first-spec : {M : Type 1} → statement M
 write-first-spec =
-    tie.close
-    (tie.spec
-    Inv-loop
-    μ-loop
-    loop-holds
-    returns
-    sub-turns
-    sub-write-part
-    part-write-part-start
-    part-write-part-end
-    write-part-requires
-    enum-known-n
-    add-from
-    loop-less
-    loop-again
-    enum-told
-    sched-yield-requires
-    loop-less-2
-    loop-again-2
-    enum-told-2
-    returns-2
-    returns-3)
+    tie.close (tie.spec Inv-loop μ-loop loop-holds returns sub-turns sub-write-part part-write-part-start part-write-part-end write-part-requires enum-known-n add-from
+    loop-less loop-again enum-told sched-yield-requires loop-less-2 loop-again-2 enum-told-2 returns-2 returns-3)

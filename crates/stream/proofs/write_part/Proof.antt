@@ -30,11 +30,4 @@ returns c =
 
 pub write-part-spec : {M : Type 1} → statement M
 write-part-spec =
-    tie.close
-    (tie.spec
-    write-requires
-    errno-requires
-    passes-requires
-    count-requires
-    outcome-requires
-    returns)
+    tie.close (tie.spec write-requires errno-requires passes-requires count-requires outcome-requires returns)

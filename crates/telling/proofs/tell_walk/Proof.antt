@@ -42,17 +42,5 @@ returns-3 c =
 
 pub tell-walk-spec : {M : Type 1} → statement M
 tell-walk-spec =
-    tie.close
-    (tie.spec
-    enum-known-answer
-    tell-begun-requires
-    enum-known-answer-2
-    tell-begun-requires-2
-    enum-known-answer-3
-    slice-aggregate-charge-in
-    charge-in-requires
-    tell-refusal-requires
-    tell-course-requires
-    returns
-    returns-2
-    returns-3)
+    tie.close (tie.spec enum-known-answer tell-begun-requires enum-known-answer-2 tell-begun-requires-2 enum-known-answer-3 slice-aggregate-charge-in charge-in-requires
+    tell-refusal-requires tell-course-requires returns returns-2 returns-3)

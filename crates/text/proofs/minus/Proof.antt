@@ -46,15 +46,4 @@ returns-4 c = search needs
 
 pub minus-spec : {M : Type 1} → statement M
 minus-spec =
-    tie.close
-    (tie.spec
-    enum-told
-    enum-known-d
-    sub-t6
-    cast-t7
-    sub-t8
-    enum-told-2
-    returns
-    returns-2
-    returns-3
-    returns-4)
+    tie.close (tie.spec enum-told enum-known-d sub-t6 cast-t7 sub-t8 enum-told-2 returns returns-2 returns-3 returns-4)

@@ -50,14 +50,4 @@ returns c =
 
 pub read-digits-spec : {M : Type 1} → statement M
 read-digits-spec =
-    tie.close
-    (tie.spec
-    Inv-loop
-    μ-loop
-    loop-holds
-    shared-slice-read-step-digits
-    step-digits-requires
-    add-i
-    loop-less
-    loop-again
-    returns)
+    tie.close (tie.spec Inv-loop μ-loop loop-holds shared-slice-read-step-digits step-digits-requires add-i loop-less loop-again returns)

@@ -56,15 +56,5 @@ returns-2 c =
 
 pub read-whole-spec : {M : Type 1} → statement M
 read-whole-spec =
-    tie.close
-    (tie.spec
-    minus-first-requires
-    sub-read-digits
-    part-read-digits-start
-    part-read-digits-end
-    read-digits-requires
-    minus-requires
-    returns
-    read-digits-requires-2
-    plus-requires
-    returns-2)
+    tie.close (tie.spec minus-first-requires sub-read-digits part-read-digits-start part-read-digits-end read-digits-requires minus-requires returns
+    read-digits-requires-2 plus-requires returns-2)

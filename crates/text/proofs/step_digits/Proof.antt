@@ -61,17 +61,5 @@ returns-4 c =
 
 pub step-digits-spec : {M : Type 1} → statement M
 step-digits-spec =
-    tie.close
-    (tie.spec
-    is-digit-requires
-    returns
-    enum-told
-    sub-extend
-    extend-requires
-    enum-known-s
-    sub-extend-2
-    extend-requires-2
-    enum-told-2
-    returns-2
-    returns-3
+    tie.close (tie.spec is-digit-requires returns enum-told sub-extend extend-requires enum-known-s sub-extend-2 extend-requires-2 enum-told-2 returns-2 returns-3
     returns-4)

@@ -57,19 +57,5 @@ returns-5 c = search needs
 
 pub finish-spec : {M : Type 1} → statement M
 finish-spec =
-    tie.close
-    (tie.spec
-    enum-told
-    enum-known-s
-    quotient-requires
-    with-sign-requires
-    enum-told-2
-    enum-known-s-2
-    quotient-requires-2
-    with-sign-requires-2
-    enum-told-3
-    returns
-    returns-2
-    returns-3
-    returns-4
-    returns-5)
+    tie.close (tie.spec enum-told enum-known-s quotient-requires with-sign-requires enum-told-2 enum-known-s-2 quotient-requires-2 with-sign-requires-2 enum-told-3
+    returns returns-2 returns-3 returns-4 returns-5)

@@ -53,15 +53,5 @@ returns-2 c =
 
 pub read-decimal-spec : {M : Type 1} → statement M
 read-decimal-spec =
-    tie.close
-    (tie.spec
-    minus-first-requires
-    sub-read-part
-    part-read-part-start
-    part-read-part-end
-    read-part-requires
-    finish-requires
-    returns
-    read-part-requires-2
-    finish-requires-2
-    returns-2)
+    tie.close (tie.spec minus-first-requires sub-read-part part-read-part-start part-read-part-end read-part-requires finish-requires returns read-part-requires-2
+    finish-requires-2 returns-2)

@@ -48,14 +48,4 @@ returns c = c .before .loop .inv .1 ∙ ap (run stepHex (Value 0)) (take-all (c 
 
 pub read-hex-spec : {M : Type 1} → statement M
 read-hex-spec =
-    tie.close
-    (tie.spec
-    Inv-loop
-    μ-loop
-    loop-holds
-    shared-slice-read-step-hex
-    step-hex-requires
-    add-i
-    loop-less
-    loop-again
-    returns)
+    tie.close (tie.spec Inv-loop μ-loop loop-holds shared-slice-read-step-hex step-hex-requires add-i loop-less loop-again returns)

@@ -45,14 +45,4 @@ returns-2 c = let q : isPattern (c .before .before .before .before .args .text .
 
 pub read-number-spec : {M : Type 1} → statement M
 read-number-spec =
-    tie.close
-    (tie.spec
-    is-pattern-requires
-    sub-read-hex
-    part-read-hex-start
-    part-read-hex-end
-    read-hex-requires
-    pattern-requires
-    returns
-    read-decimal-requires
-    returns-2)
+    tie.close (tie.spec is-pattern-requires sub-read-hex part-read-hex-start part-read-hex-end read-hex-requires pattern-requires returns read-decimal-requires returns-2)

@@ -48,14 +48,4 @@ returns c = c .before .loop .inv .1 ∙ ap (run stepPart Start) (take-all (c .be
 
 pub read-part-spec : {M : Type 1} → statement M
 read-part-spec =
-    tie.close
-    (tie.spec
-    Inv-loop
-    μ-loop
-    loop-holds
-    shared-slice-read-step-part
-    step-part-requires
-    add-i
-    loop-less
-    loop-again
-    returns)
+    tie.close (tie.spec Inv-loop μ-loop loop-holds shared-slice-read-step-part step-part-requires add-i loop-less loop-again returns)

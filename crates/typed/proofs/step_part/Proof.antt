@@ -47,19 +47,5 @@ returns-5 c = search needs
 
 pub step-part-spec : {M : Type 1} → statement M
 step-part-spec =
-    tie.close
-    (tie.spec
-    enum-told
-    first-part-requires
-    enum-known-s
-    next-whole-requires
-    enum-known-s-2
-    next-fraction-requires
-    enum-known-s-3
-    next-fraction-requires-2
-    enum-told-2
-    returns
-    returns-2
-    returns-3
-    returns-4
-    returns-5)
+    tie.close (tie.spec enum-told first-part-requires enum-known-s next-whole-requires enum-known-s-2 next-fraction-requires enum-known-s-3 next-fraction-requires-2
+    enum-told-2 returns returns-2 returns-3 returns-4 returns-5)

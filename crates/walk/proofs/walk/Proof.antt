@@ -60,15 +60,4 @@ returns-2 c =
 
 pub walk-spec : {M : Type 1} → statement M
 walk-spec =
-    tie.close
-    (tie.spec
-    heat-column-requires
-    judge-requires
-    enum-known-r
-    enum-told
-    walk-judged-requires
-    returns
-    same-length
-    same-length-2
-    same-length-3
-    returns-2)
+    tie.close (tie.spec heat-column-requires judge-requires enum-known-r enum-told walk-judged-requires returns same-length same-length-2 same-length-3 returns-2)

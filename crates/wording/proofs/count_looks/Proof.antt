@@ -47,15 +47,4 @@ returns-2 c = omega (arith, c .before .loop .inv .1, ap length (used-end (c .bef
 
 pub count-looks-spec : {M : Type 1} → statement M
 count-looks-spec =
-    tie.close
-    (tie.spec
-    Inv-loop
-    μ-loop
-    loop-holds
-    mul-if1
-    shared-slice-read-if1
-    returns
-    add-i
-    loop-less
-    loop-again
-    returns-2)
+    tie.close (tie.spec Inv-loop μ-loop loop-holds mul-if1 shared-slice-read-if1 returns add-i loop-less loop-again returns-2)

@@ -76,24 +76,6 @@ returns-3 c = rw (c .before .before .before .before .before .answer3 .given .1) 
 
 pub put-course-spec : {M : Type 1} → statement M
 put-course-spec =
-    tie.close
-    (tie.spec
-    enum-known-answer
-    slice-aggregate-put-text
-    put-text-requires
-    put-small-requires
-    put-state-requires
-    enum-known-answer-2
-    slice-aggregate-put-text-2
-    put-text-requires-2
-    put-small-requires-2
-    put-small-requires-3
-    put-state-requires-2
-    enum-known-answer-3
-    put-refusal-requires
-    same-length
-    returns
-    same-length-2
-    returns-2
-    same-length-3
-    returns-3)
+    tie.close (tie.spec enum-known-answer slice-aggregate-put-text put-text-requires put-small-requires put-state-requires enum-known-answer-2 slice-aggregate-put-text-2
+    put-text-requires-2 put-small-requires-2 put-small-requires-3 put-state-requires-2 enum-known-answer-3 put-refusal-requires same-length returns same-length-2
+    returns-2 same-length-3 returns-3)

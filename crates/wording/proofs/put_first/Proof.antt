@@ -52,16 +52,4 @@ returns c = let e : c .before .loop .i ≡ c .before .before .before .before .ar
 
 pub put-first-spec : {M : Type 1} → statement M
 put-first-spec =
-    tie.close
-    (tie.spec
-    Inv-loop
-    μ-loop
-    loop-holds
-    mul-put-small
-    shared-slice-read-put-small
-    put-small-requires
-    add-i
-    loop-less
-    loop-again
-    same-length
-    returns)
+    tie.close (tie.spec Inv-loop μ-loop loop-holds mul-put-small shared-slice-read-put-small put-small-requires add-i loop-less loop-again same-length returns)

@@ -49,19 +49,5 @@ returns-3 c = rw (c .before .before .before .before .before .answer .given .1) (
 
 pub put-mark-spec : {M : Type 1} → statement M
 put-mark-spec =
-    tie.close
-    (tie.spec
-    enum-told
-    slice-aggregate-put-text
-    put-text-requires
-    enum-told-2
-    slice-aggregate-put-text-2
-    put-text-requires-2
-    enum-known-answer
-    put-refusal-requires
-    same-length
-    returns
-    same-length-2
-    returns-2
-    same-length-3
-    returns-3)
+    tie.close (tie.spec enum-told slice-aggregate-put-text put-text-requires enum-told-2 slice-aggregate-put-text-2 put-text-requires-2 enum-known-answer
+    put-refusal-requires same-length returns same-length-2 returns-2 same-length-3 returns-3)

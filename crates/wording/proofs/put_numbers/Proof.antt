@@ -61,16 +61,4 @@ returns c =
 
 pub put-numbers-spec : {M : Type 1} → statement M
 put-numbers-spec =
-    tie.close
-    (tie.spec
-    Inv-loop
-    μ-loop
-    loop-holds
-    mul-put-signed
-    shared-slice-copy-out-put-signed
-    put-signed-requires
-    add-i
-    loop-less
-    loop-again
-    same-length
-    returns)
+    tie.close (tie.spec Inv-loop μ-loop loop-holds mul-put-signed shared-slice-copy-out-put-signed put-signed-requires add-i loop-less loop-again same-length returns)

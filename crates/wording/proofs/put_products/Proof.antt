@@ -43,14 +43,5 @@ returns c =
 
 pub put-products-spec : {M : Type 1} → statement M
 put-products-spec =
-    tie.close
-    (tie.spec
-    slice-aggregate-put-text
-    put-text-requires
-    put-number-requires
-    put-number-requires-2
-    put-number-requires-3
-    put-number-requires-4
-    put-number-requires-5
-    same-length
-    returns)
+    tie.close (tie.spec slice-aggregate-put-text put-text-requires put-number-requires put-number-requires-2 put-number-requires-3 put-number-requires-4
+    put-number-requires-5 same-length returns)

@@ -40,15 +40,5 @@ returns-2 c = rw (c .before .before .before .before .before .reading2 .given .1)
 
 pub put-reading-spec : {M : Type 1} → statement M
 put-reading-spec =
-    tie.close
-    (tie.spec
-    enum-known-reading
-    slice-aggregate-put-text
-    put-text-requires
-    put-number-requires
-    enum-known-reading-2
-    put-refusal-requires
-    same-length
-    returns
-    same-length-2
-    returns-2)
+    tie.close (tie.spec enum-known-reading slice-aggregate-put-text put-text-requires put-number-requires enum-known-reading-2 put-refusal-requires same-length returns
+    same-length-2 returns-2)

@@ -47,16 +47,5 @@ returns-2 c =
 
 pub put-refusal-spec : {M : Type 1} → statement M
 put-refusal-spec =
-    tie.close
-    (tie.spec
-    slice-aggregate-put-text
-    put-text-requires
-    enum-known-refusal
-    put-small-requires
-    enum-known-refusal-2
-    put-small-requires-2
-    put-small-requires-3
-    same-length
-    returns
-    same-length-2
-    returns-2)
+    tie.close (tie.spec slice-aggregate-put-text put-text-requires enum-known-refusal put-small-requires enum-known-refusal-2 put-small-requires-2 put-small-requires-3
+    same-length returns same-length-2 returns-2)

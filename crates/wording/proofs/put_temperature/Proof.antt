@@ -56,17 +56,5 @@ returns-2 c = rw (c .before .before .before .before .before .answer2 .given .1) 
 
 pub put-temperature-spec : {M : Type 1} → statement M
 put-temperature-spec =
-    tie.close
-    (tie.spec
-    enum-known-answer
-    slice-aggregate-put-text
-    put-text-requires
-    put-signed-requires
-    put-signed-requires-2
-    put-looks-requires
-    enum-known-answer-2
-    put-refusal-requires
-    same-length
-    returns
-    same-length-2
-    returns-2)
+    tie.close (tie.spec enum-known-answer slice-aggregate-put-text put-text-requires put-signed-requires put-signed-requires-2 put-looks-requires enum-known-answer-2
+    put-refusal-requires same-length returns same-length-2 returns-2)

@@ -64,17 +64,4 @@ returns c =
 
 pub lay-spec : {M : Type 1} → statement M
 lay-spec =
-    tie.close
-    (tie.spec
-    Inv-loop
-    μ-loop
-    loop-holds
-    mul-looks
-    element-copy-out-looks
-    mul-looks-2
-    slice-write-looks
-    add-i
-    loop-less
-    loop-again
-    same-length
-    returns)
+    tie.close (tie.spec Inv-loop μ-loop loop-holds mul-looks element-copy-out-looks mul-looks-2 slice-write-looks add-i loop-less loop-again same-length returns)

@@ -109,18 +109,5 @@ returns-4 c =
 
 pub psi-inverse-lent-spec : {M : Type 1} → statement M
 psi-inverse-lent-spec =
-    tie.close
-    (tie.spec
-    returns
-    figure-requires
-    mul-of-u64
-    of-u64-requires
-    returns-2
-    figure-requires-2
-    mul-of-u64-2
-    of-u64-requires-2
-    returns-3
-    to-u64-requires
-    psi-reached-requires
-    same-length
-    returns-4)
+    tie.close (tie.spec returns figure-requires mul-of-u64 of-u64-requires returns-2 figure-requires-2 mul-of-u64-2 of-u64-requires-2 returns-3 to-u64-requires
+    psi-reached-requires same-length returns-4)

@@ -43,13 +43,4 @@ returns-2 c =
 
 pub read-spec : {M : Type 1} → statement M
 read-spec =
-    tie.close
-    (tie.spec
-    figure-requires
-    mul-result
-    returns
-    figure-requires-2
-    add-figure
-    figure-requires-3
-    reading-of-requires
-    returns-2)
+    tie.close (tie.spec figure-requires mul-result returns figure-requires-2 add-figure figure-requires-3 reading-of-requires returns-2)

@@ -39,14 +39,4 @@ returns c =
 
 pub divide-spec : {M : Type 1} → statement M
 divide-spec =
-    tie.close
-    (tie.spec
-    sub-slope
-    mul-over
-    sub-over
-    mul-of-u64
-    thousandths-requires
-    add-of-u64
-    of-u64-requires
-    rem-t8
-    returns)
+    tie.close (tie.spec sub-slope mul-over sub-over mul-of-u64 thousandths-requires add-of-u64 of-u64-requires rem-t8 returns)

@@ -80,18 +80,5 @@ returns-2 c =
 
 pub psi-reached-spec : {M : Type 1} → statement M
 psi-reached-spec =
-    tie.close
-    (tie.spec
-    figure-requires
-    mul-if1
-    lay-requires
-    same-length
-    returns
-    halve-requires
-    lay-requires-2
-    figure-requires-2
-    add-figure
-    figure-requires-3
-    divide-requires
-    same-length-2
-    returns-2)
+    tie.close (tie.spec figure-requires mul-if1 lay-requires same-length returns halve-requires lay-requires-2 figure-requires-2 add-figure figure-requires-3
+    divide-requires same-length-2 returns-2)

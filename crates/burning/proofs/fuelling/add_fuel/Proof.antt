@@ -73,14 +73,4 @@ returns-3 c =
 
 pub add-fuel-spec : {M : Type 1} → statement M
 add-fuel-spec =
-    tie.close
-    (tie.spec
-    add-atoms-requires
-    enum-known-carbon
-    enum-told
-    returns
-    add-atoms-requires-2
-    enum-known-hydrogen
-    enum-told-2
-    returns-2
-    returns-3)
+    tie.close (tie.spec add-atoms-requires enum-known-carbon enum-told returns add-atoms-requires-2 enum-known-hydrogen enum-told-2 returns-2 returns-3)

@@ -48,17 +48,4 @@ returns c = let f : SFits w64 (c .before .before .of-u64 .result) = search needs
 
 pub weigh-spec : {M : Type 1} → statement M
 weigh-spec =
-    tie.close
-    (tie.spec
-    mul-t2
-    mul-of-u64
-    mul-of-u64-2
-    mul-of-u64-3
-    add-of-u64
-    of-u64-requires
-    mul-t9
-    add-t10
-    mul-t11
-    add-t13
-    mul-t14
-    returns)
+    tie.close (tie.spec mul-t2 mul-of-u64 mul-of-u64-2 mul-of-u64-3 add-of-u64 of-u64-requires mul-t9 add-t10 mul-t11 add-t13 mul-t14 returns)

@@ -69,19 +69,5 @@ returns-2 c =
 
 pub put-reply-spec : {M : Type 1} → statement M
 put-reply-spec =
-    tie.close
-    (tie.spec
-    holds-return-requires
-    slice-aggregate-put-text
-    put-text-requires
-    same-length
-    returns
-    field-end-requires
-    sub-request-of
-    part-request-of-start
-    part-request-of-end
-    request-of-requires
-    add-reply
-    reply-requires
-    same-length-2
-    returns-2)
+    tie.close (tie.spec holds-return-requires slice-aggregate-put-text put-text-requires same-length returns field-end-requires sub-request-of part-request-of-start
+    part-request-of-end request-of-requires add-reply reply-requires same-length-2 returns-2)

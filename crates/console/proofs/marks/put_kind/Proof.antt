@@ -53,21 +53,5 @@ returns-4 c = rw (c .before .before .before .before .enum-told4 .given .1) (c .b
 
 pub put-kind-spec : {M : Type 1} → statement M
 put-kind-spec =
-    tie.close
-    (tie.spec
-    enum-told
-    put-typed-requires
-    enum-told-2
-    put-typed-requires-2
-    enum-told-3
-    put-marked-requires
-    enum-told-4
-    put-misfit-requires
-    same-length
-    returns
-    same-length-2
-    returns-2
-    same-length-3
-    returns-3
-    same-length-4
-    returns-4)
+    tie.close (tie.spec enum-told put-typed-requires enum-told-2 put-typed-requires-2 enum-told-3 put-marked-requires enum-told-4 put-misfit-requires same-length returns
+    same-length-2 returns-2 same-length-3 returns-3 same-length-4 returns-4)

@@ -46,15 +46,4 @@ returns-2 c = rw (← c .before .before .before .before .before .before .read-tw
 
 pub put-marked-spec : {M : Type 1} → statement M
 put-marked-spec =
-    tie.close
-    (tie.spec
-    read-two-requires
-    enum-known-key
-    mark-requires
-    put-mark-requires
-    enum-told
-    put-misfit-requires
-    same-length
-    returns
-    same-length-2
-    returns-2)
+    tie.close (tie.spec read-two-requires enum-known-key mark-requires put-mark-requires enum-told put-misfit-requires same-length returns same-length-2 returns-2)

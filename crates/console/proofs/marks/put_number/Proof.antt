@@ -32,14 +32,4 @@ returns-2 c = rw (c .before .before .before .before .enum-told .given .1) (c .be
 
 pub put-number-spec : {M : Type 1} → statement M
 put-number-spec =
-    tie.close
-    (tie.spec
-    enum-known-number
-    in-unit-requires
-    put-marked-requires
-    enum-told
-    put-no-number-requires
-    same-length
-    returns
-    same-length-2
-    returns-2)
+    tie.close (tie.spec enum-known-number in-unit-requires put-marked-requires enum-told put-no-number-requires same-length returns same-length-2 returns-2)

@@ -57,17 +57,5 @@ returns-2 c =
 
 pub put-typed-spec : {M : Type 1} → statement M
 put-typed-spec =
-    tie.close
-    (tie.spec
-    put-misfit-requires
-    same-length
-    returns
-    field-end-requires
-    sub-read-number
-    part-read-number-start
-    part-read-number-end
-    read-number-requires
-    add-put-number
-    put-number-requires
-    same-length-2
-    returns-2)
+    tie.close (tie.spec put-misfit-requires same-length returns field-end-requires sub-read-number part-read-number-start part-read-number-end read-number-requires
+    add-put-number put-number-requires same-length-2 returns-2)

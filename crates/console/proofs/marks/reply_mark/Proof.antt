@@ -57,17 +57,5 @@ returns-2 c =
 
 pub reply-mark-spec : {M : Type 1} → statement M
 reply-mark-spec =
-    tie.close
-    (tie.spec
-    put-misfit-requires
-    same-length
-    returns
-    field-end-requires
-    sub-kind-of
-    part-kind-of-start
-    part-kind-of-end
-    kind-of-requires
-    add-put-kind
-    put-kind-requires
-    same-length-2
-    returns-2)
+    tie.close (tie.spec put-misfit-requires same-length returns field-end-requires sub-kind-of part-kind-of-start part-kind-of-end kind-of-requires add-put-kind
+    put-kind-requires same-length-2 returns-2)

@@ -31,11 +31,4 @@ returns c =
 
 pub ask-psi-spec : {M : Type 1} → statement M
 ask-psi-spec =
-    tie.close
-    (tie.spec
-    slice-aggregate-psi-inverse-lent
-    psi-inverse-lent-requires
-    slice-aggregate-put-psi
-    put-psi-requires
-    same-length
-    returns)
+    tie.close (tie.spec slice-aggregate-psi-inverse-lent psi-inverse-lent-requires slice-aggregate-put-psi put-psi-requires same-length returns)

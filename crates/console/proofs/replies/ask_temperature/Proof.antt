@@ -32,11 +32,4 @@ returns c =
 
 pub ask-temperature-spec : {M : Type 1} → statement M
 ask-temperature-spec =
-    tie.close
-    (tie.spec
-    slice-aggregate-temperature-judged
-    temperature-judged-requires
-    slice-aggregate-put-temperature
-    put-temperature-requires
-    same-length
-    returns)
+    tie.close (tie.spec slice-aggregate-temperature-judged temperature-judged-requires slice-aggregate-put-temperature put-temperature-requires same-length returns)

@@ -31,13 +31,4 @@ returns-2 c = rw (c .before .before .before .before .before .answer2 .given .1) 
 
 pub put-burnt-spec : {M : Type 1} → statement M
 put-burnt-spec =
-    tie.close
-    (tie.spec
-    enum-known-answer
-    put-products-requires
-    enum-known-answer-2
-    put-refusal-requires
-    same-length
-    returns
-    same-length-2
-    returns-2)
+    tie.close (tie.spec enum-known-answer put-products-requires enum-known-answer-2 put-refusal-requires same-length returns same-length-2 returns-2)

@@ -89,31 +89,6 @@ returns-6 c = rw (c .before .before .before .before .enum-told4 .given .1) (c .b
 
 pub reply-spec : {M : Type 1} → statement M
 reply-spec =
-    tie.close
-    (tie.spec
-    enum-known-request
-    read-one-requires
-    reply-air-requires
-    enum-told
-    reply-burn-requires
-    enum-known-request-2
-    gas-ask-of-requires
-    reply-gas-requires
-    enum-told-2
-    reply-walk-requires
-    enum-told-3
-    reply-mark-requires
-    enum-told-4
-    put-unknown-requires
-    same-length
-    returns
-    same-length-2
-    returns-2
-    same-length-3
-    returns-3
-    same-length-4
-    returns-4
-    same-length-5
-    returns-5
-    same-length-6
-    returns-6)
+    tie.close (tie.spec enum-known-request read-one-requires reply-air-requires enum-told reply-burn-requires enum-known-request-2 gas-ask-of-requires reply-gas-requires
+    enum-told-2 reply-walk-requires enum-told-3 reply-mark-requires enum-told-4 put-unknown-requires same-length returns same-length-2 returns-2 same-length-3 returns-3
+    same-length-4 returns-4 same-length-5 returns-5 same-length-6 returns-6)

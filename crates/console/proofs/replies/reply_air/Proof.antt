@@ -35,13 +35,4 @@ returns-2 c = rw (c .before .before .before .before .enum-told .given .1) (c .be
 
 pub reply-air-spec : {M : Type 1} → statement M
 reply-air-spec =
-    tie.close
-    (tie.spec
-    enum-known-number
-    tell-air-requires
-    enum-told
-    put-misfit-requires
-    same-length
-    returns
-    same-length-2
-    returns-2)
+    tie.close (tie.spec enum-known-number tell-air-requires enum-told put-misfit-requires same-length returns same-length-2 returns-2)

@@ -63,16 +63,5 @@ returns-2 c =
 
 pub reply-burn-spec : {M : Type 1} → statement M
 reply-burn-spec =
-    tie.close
-    (tie.spec
-    slice-aggregate-read-exactly
-    read-exactly-requires
-    put-misfit-requires
-    same-length
-    returns
-    slice-aggregate-charge-in
-    charge-in-requires
-    burn-requires
-    put-burnt-requires
-    same-length-2
-    returns-2)
+    tie.close (tie.spec slice-aggregate-read-exactly read-exactly-requires put-misfit-requires same-length returns slice-aggregate-charge-in charge-in-requires
+    burn-requires put-burnt-requires same-length-2 returns-2)

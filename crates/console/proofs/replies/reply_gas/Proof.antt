@@ -53,17 +53,5 @@ returns-3 c = rw (c .before .before .before .before .enum-told .given .1) (c .be
 
 pub reply-gas-spec : {M : Type 1} → statement M
 reply-gas-spec =
-    tie.close
-    (tie.spec
-    enum-known-asked
-    tell-gas-requires
-    enum-known-asked-2
-    put-refusal-requires
-    enum-told
-    put-misfit-requires
-    same-length
-    returns
-    same-length-2
-    returns-2
-    same-length-3
-    returns-3)
+    tie.close (tie.spec enum-known-asked tell-gas-requires enum-known-asked-2 put-refusal-requires enum-told put-misfit-requires same-length returns same-length-2
+    returns-2 same-length-3 returns-3)

@@ -80,24 +80,5 @@ returns-4 c =
 
 pub tell-air-spec : {M : Type 1} → statement M
 tell-air-spec =
-    tie.close
-    (tie.spec
-    enum-told
-    heat-lent-requires
-    put-reading-requires
-    enum-told-2
-    psi-lent-requires
-    put-reading-requires-2
-    enum-told-3
-    cp-lent-requires
-    put-reading-requires-3
-    enum-told-4
-    ask-psi-requires
-    same-length
-    returns
-    same-length-2
-    returns-2
-    same-length-3
-    returns-3
-    same-length-4
-    returns-4)
+    tie.close (tie.spec enum-told heat-lent-requires put-reading-requires enum-told-2 psi-lent-requires put-reading-requires-2 enum-told-3 cp-lent-requires
+    put-reading-requires-3 enum-told-4 ask-psi-requires same-length returns same-length-2 returns-2 same-length-3 returns-3 same-length-4 returns-4)

@@ -103,29 +103,6 @@ returns-5 c =
 
 pub tell-gas-spec : {M : Type 1} → statement M
 tell-gas-spec =
-    tie.close
-    (tie.spec
-    enum-told
-    gas-heat-judged-requires
-    put-heat-requires
-    enum-told-2
-    content-judged-requires
-    put-heat-requires-2
-    enum-told-3
-    specific-judged-requires
-    put-specific-requires
-    enum-told-4
-    ask-temperature-requires
-    enum-told-5
-    station-judged-requires
-    put-station-requires
-    same-length
-    returns
-    same-length-2
-    returns-2
-    same-length-3
-    returns-3
-    same-length-4
-    returns-4
-    same-length-5
-    returns-5)
+    tie.close (tie.spec enum-told gas-heat-judged-requires put-heat-requires enum-told-2 content-judged-requires put-heat-requires-2 enum-told-3 specific-judged-requires
+    put-specific-requires enum-told-4 ask-temperature-requires enum-told-5 station-judged-requires put-station-requires same-length returns same-length-2 returns-2
+    same-length-3 returns-3 same-length-4 returns-4 same-length-5 returns-5)

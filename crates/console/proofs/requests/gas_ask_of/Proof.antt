@@ -67,15 +67,5 @@ returns-3 c = rw (c .before .verdict .given .1) (asked (c .before .before .befor
 
 pub gas-ask-of-spec : {M : Type 1} → statement M
 gas-ask-of-spec =
-    tie.close
-    (tie.spec
-    slice-aggregate-read-exactly
-    read-exactly-requires
-    returns
-    enum-told
-    slice-aggregate-charge-in
-    charge-in-requires
-    array-copy-out-t16
-    enum-known-verdict
-    returns-2
-    returns-3)
+    tie.close (tie.spec slice-aggregate-read-exactly read-exactly-requires returns enum-told slice-aggregate-charge-in charge-in-requires array-copy-out-t16
+    enum-known-verdict returns-2 returns-3)

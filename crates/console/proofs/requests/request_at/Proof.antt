@@ -47,19 +47,5 @@ returns-13 c = search needs
 
 pub request-at-spec : {M : Type 1} → statement M
 request-at-spec =
-    tie.close
-    (tie.spec
-    unnamed-requires
-    returns
-    returns-2
-    returns-3
-    returns-4
-    returns-5
-    returns-6
-    returns-7
-    returns-8
-    returns-9
-    returns-10
-    returns-11
-    returns-12
+    tie.close (tie.spec unnamed-requires returns returns-2 returns-3 returns-4 returns-5 returns-6 returns-7 returns-8 returns-9 returns-10 returns-11 returns-12
     returns-13)

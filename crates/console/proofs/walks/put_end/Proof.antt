@@ -42,16 +42,5 @@ returns-3 c = rw (c .before .before .before .before .before .before .answer2 .gi
 
 pub put-end-spec : {M : Type 1} → statement M
 put-end-spec =
-    tie.close
-    (tie.spec
-    enum-told
-    enum-known-answer
-    put-refused-requires
-    enum-known-answer-2
-    number-of-requires
-    put-refused-requires-2
-    returns
-    same-length
-    returns-2
-    same-length-2
-    returns-3)
+    tie.close (tie.spec enum-told enum-known-answer put-refused-requires enum-known-answer-2 number-of-requires put-refused-requires-2 returns same-length returns-2
+    same-length-2 returns-3)

@@ -43,13 +43,4 @@ returns c =
 
 pub put-on-page-spec : {M : Type 1} → statement M
 put-on-page-spec =
-    tie.close
-    (tie.spec
-    put-decimal-requires
-    put-signed-requires
-    put-signed-requires-2
-    count-looks-requires
-    put-number-requires
-    put-byte-requires
-    same-length
-    returns)
+    tie.close (tie.spec put-decimal-requires put-signed-requires put-signed-requires-2 count-looks-requires put-number-requires put-byte-requires same-length returns)

@@ -34,12 +34,4 @@ returns c =
 
 pub put-page-spec : {M : Type 1} → statement M
 put-page-spec =
-    tie.close
-    (tie.spec
-    slice-aggregate-put-text
-    put-text-requires
-    steps-done-requires
-    put-steps-requires
-    put-end-requires
-    same-length
-    returns)
+    tie.close (tie.spec slice-aggregate-put-text put-text-requires steps-done-requires put-steps-requires put-end-requires same-length returns)

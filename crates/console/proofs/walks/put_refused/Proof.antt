@@ -27,11 +27,4 @@ returns c =
 
 pub put-refused-spec : {M : Type 1} → statement M
 put-refused-spec =
-    tie.close
-    (tie.spec
-    slice-aggregate-put-text
-    put-text-requires
-    put-small-requires
-    put-byte-requires
-    same-length
-    returns)
+    tie.close (tie.spec slice-aggregate-put-text put-text-requires put-small-requires put-byte-requires same-length returns)

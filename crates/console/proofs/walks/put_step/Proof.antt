@@ -36,13 +36,4 @@ returns-2 c =
 
 pub put-step-spec : {M : Type 1} → statement M
 put-step-spec =
-    tie.close
-    (tie.spec
-    enum-told
-    put-in-line-requires
-    enum-told-2
-    put-on-page-requires
-    same-length
-    returns
-    same-length-2
-    returns-2)
+    tie.close (tie.spec enum-told put-in-line-requires enum-told-2 put-on-page-requires same-length returns same-length-2 returns-2)

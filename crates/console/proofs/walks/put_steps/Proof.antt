@@ -120,25 +120,5 @@ returns c =
 
 pub put-steps-spec : {M : Type 1} → statement M
 put-steps-spec =
-    tie.close
-    (tie.spec
-    Inv-loop
-    μ-loop
-    loop-holds
-    mul-from
-    add-end
-    add-put-step
-    mul-put-step
-    shared-slice-copy-out-put-step
-    mul-put-step-2
-    shared-slice-copy-out-put-step-2
-    mul-put-step-3
-    sub-put-step
-    part-put-step-start
-    part-put-step-end
-    put-step-requires
-    add-i
-    loop-less
-    loop-again
-    same-length
-    returns)
+    tie.close (tie.spec Inv-loop μ-loop loop-holds mul-from add-end add-put-step mul-put-step shared-slice-copy-out-put-step mul-put-step-2
+    shared-slice-copy-out-put-step-2 mul-put-step-3 sub-put-step part-put-step-start part-put-step-end put-step-requires add-i loop-less loop-again same-length returns)

@@ -29,13 +29,4 @@ returns-2 c = rw (c .before .before .before .before .enum-told2 .given .1) (c .b
 
 pub put-walk-spec : {M : Type 1} → statement M
 put-walk-spec =
-    tie.close
-    (tie.spec
-    enum-told
-    put-line-requires
-    enum-told-2
-    put-page-requires
-    same-length
-    returns
-    same-length-2
-    returns-2)
+    tie.close (tie.spec enum-told put-line-requires enum-told-2 put-page-requires same-length returns same-length-2 returns-2)

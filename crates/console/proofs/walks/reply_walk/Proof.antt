@@ -78,19 +78,5 @@ returns-2 c =
 
 pub reply-walk-spec : {M : Type 1} → statement M
 reply-walk-spec =
-    tie.close
-    (tie.spec
-    slice-aggregate-read-numbers
-    read-numbers-requires
-    held-of-requires
-    put-misfit-requires
-    same-length
-    returns
-    slice-aggregate-charge-in
-    charge-in-requires
-    array-copy-out-t22
-    part-show-start
-    part-show-end
-    show-requires
-    same-length-2
-    returns-2)
+    tie.close (tie.spec slice-aggregate-read-numbers read-numbers-requires held-of-requires put-misfit-requires same-length returns slice-aggregate-charge-in
+    charge-in-requires array-copy-out-t22 part-show-start part-show-end show-requires same-length-2 returns-2)

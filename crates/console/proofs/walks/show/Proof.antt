@@ -49,15 +49,5 @@ returns c =
 
 pub show-spec : {M : Type 1} → statement M
 show-spec =
-    tie.close
-    (tie.spec
-    slice-aggregate-walk-held
-    slice-aggregate-walk-held-2
-    slice-aggregate-walk-held-3
-    walk-held-requires
-    slice-aggregate-put-walk
-    slice-aggregate-put-walk-2
-    slice-aggregate-put-walk-3
-    put-walk-requires
-    same-length
-    returns)
+    tie.close (tie.spec slice-aggregate-walk-held slice-aggregate-walk-held-2 slice-aggregate-walk-held-3 walk-held-requires slice-aggregate-put-walk
+    slice-aggregate-put-walk-2 slice-aggregate-put-walk-3 put-walk-requires same-length returns)

@@ -30,13 +30,4 @@ returns-3 c = rw (c .enum-told .given .1) refl
 
 pub steps-done-spec : {M : Type 1} → statement M
 steps-done-spec =
-    tie.close
-    (tie.spec
-    enum-known-answer
-    cast-result
-    enum-known-answer-2
-    cast-result-2
-    enum-told
-    returns
-    returns-2
-    returns-3)
+    tie.close (tie.spec enum-known-answer cast-result enum-known-answer-2 cast-result-2 enum-told returns returns-2 returns-3)

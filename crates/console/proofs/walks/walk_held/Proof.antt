@@ -41,13 +41,4 @@ returns-2 c = rw (c .before .verdict .given .1) (walks-refused _ _)
 
 pub walk-held-spec : {M : Type 1} → statement M
 walk-held-spec =
-    tie.close
-    (tie.spec
-    enum-told
-    walk-judged-requires
-    enum-known-verdict
-    same-length
-    same-length-2
-    same-length-3
-    returns
-    returns-2)
+    tie.close (tie.spec enum-told walk-judged-requires enum-known-verdict same-length same-length-2 same-length-3 returns returns-2)

@@ -44,16 +44,4 @@ returns c = search needs
 
 pub hide-spec : {M : Type 1} → statement M
 hide-spec =
-    tie.close
-    (tie.spec
-    Inv-loop
-    μ-loop
-    loop-holds
-    slice-read-shown
-    shown-requires
-    slice-write-name
-    add-i
-    loop-less
-    loop-again
-    same-length
-    returns)
+    tie.close (tie.spec Inv-loop μ-loop loop-holds slice-read-shown shown-requires slice-write-name add-i loop-less loop-again same-length returns)

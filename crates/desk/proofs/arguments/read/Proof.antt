@@ -55,16 +55,4 @@ returns c = search needs
 
 pub read-spec : {M : Type 1} → statement M
 read-spec =
-    tie.close
-    (tie.spec
-    Inv-loop
-    μ-loop
-    arg-count-requires
-    none-requires
-    loop-holds
-    see-requires
-    add-i
-    loop-less
-    loop-again
-    form-of-requires
-    returns)
+    tie.close (tie.spec Inv-loop μ-loop arg-count-requires none-requires loop-holds see-requires add-i loop-less loop-again form-of-requires returns)

@@ -37,12 +37,4 @@ returns-2 c =
 
 pub answer-held-spec : {M : Type 1} → statement M
 answer-held-spec =
-    tie.close
-    (tie.spec
-    enum-known-output
-    enum-told
-    returns
-    put-answer-requires
-    make-room-requires
-    same-length
-    returns-2)
+    tie.close (tie.spec enum-known-output enum-told returns put-answer-requires make-room-requires same-length returns-2)

@@ -82,26 +82,5 @@ returns c = search needs
 
 pub answer-lines-spec : {M : Type 1} → statement M
 answer-lines-spec =
-    tie.close
-    (tie.spec
-    Inv-loop
-    μ-loop
-    unread-requires
-    loop-holds
-    sub-turns
-    slice-aggregate-next-line
-    next-line-requires
-    enum-known-found
-    answer-held-requires
-    loop-less
-    loop-again
-    enum-told
-    loop-less-2
-    loop-again-2
-    enum-told-2
-    loop-less-3
-    loop-again-3
-    same-length
-    same-length-2
-    same-length-3
-    returns)
+    tie.close (tie.spec Inv-loop μ-loop unread-requires loop-holds sub-turns slice-aggregate-next-line next-line-requires enum-known-found answer-held-requires loop-less
+    loop-again enum-told loop-less-2 loop-again-2 enum-told-2 loop-less-3 loop-again-3 same-length same-length-2 same-length-3 returns)

@@ -60,18 +60,5 @@ returns-2 c =
 
 pub put-answer-spec : {M : Type 1} → statement M
 put-answer-spec =
-    tie.close
-    (tie.spec
-    enum-known-held
-    end-of-requires
-    sub-answer-judged
-    part-answer-judged-start
-    part-answer-judged-end
-    answer-judged-requires
-    enum-told
-    slice-aggregate-put-text
-    put-text-requires
-    same-length
-    returns
-    same-length-2
-    returns-2)
+    tie.close (tie.spec enum-known-held end-of-requires sub-answer-judged part-answer-judged-start part-answer-judged-end answer-judged-requires enum-told
+    slice-aggregate-put-text put-text-requires same-length returns same-length-2 returns-2)

@@ -43,17 +43,5 @@ returns-2 c = search needs
 
 pub print-file-spec : {M : Type 1} → statement M
 print-file-spec =
-    tie.close
-    (tie.spec
-    buffer-requires
-    slice-aggregate-show
-    show-requires
-    array-share-prefix-name
-    slice-aggregate-open
-    open-requires
-    returns
-    array-share-prefix-name-2
-    slice-aggregate-print-from
-    print-from-requires
-    close-requires
-    returns-2)
+    tie.close (tie.spec buffer-requires slice-aggregate-show show-requires array-share-prefix-name slice-aggregate-open open-requires returns array-share-prefix-name-2
+    slice-aggregate-print-from print-from-requires close-requires returns-2)

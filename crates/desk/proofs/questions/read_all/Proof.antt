@@ -80,28 +80,5 @@ returns-2 c = search needs
 
 pub read-all-spec : {M : Type 1} → statement M
 read-all-spec =
-    tie.close
-    (tie.spec
-    Inv-loop
-    μ-loop
-    unread-requires
-    loop-holds
-    sub-turns
-    slice-aggregate-next-line
-    next-line-requires
-    enum-known-found
-    take-held-requires
-    loop-less
-    loop-again
-    enum-told
-    loop-less-2
-    loop-again-2
-    enum-told-2
-    same-length
-    same-length-2
-    same-length-3
-    returns
-    same-length-4
-    same-length-5
-    same-length-6
-    returns-2)
+    tie.close (tie.spec Inv-loop μ-loop unread-requires loop-holds sub-turns slice-aggregate-next-line next-line-requires enum-known-found take-held-requires loop-less
+    loop-again enum-told loop-less-2 loop-again-2 enum-told-2 same-length same-length-2 same-length-3 returns same-length-4 same-length-5 same-length-6 returns-2)

@@ -46,18 +46,5 @@ returns-2 c = search needs
 
 pub read-spec : {M : Type 1} → statement M
 read-spec =
-    tie.close
-    (tie.spec
-    buffer-requires
-    slice-aggregate-show
-    show-requires
-    array-share-prefix-name
-    slice-aggregate-open
-    open-requires
-    returns
-    array-share-prefix-name-2
-    slice-aggregate-fill
-    fill-requires
-    close-requires
-    same-length
-    returns-2)
+    tie.close (tie.spec buffer-requires slice-aggregate-show show-requires array-share-prefix-name slice-aggregate-open open-requires returns array-share-prefix-name-2
+    slice-aggregate-fill fill-requires close-requires same-length returns-2)

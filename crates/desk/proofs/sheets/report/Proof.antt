@@ -91,21 +91,5 @@ returns-2 c = search needs
 
 pub report-spec : {M : Type 1} → statement M
 report-spec =
-    tie.close
-    (tie.spec
-    large-buffer-requires
-    slice-aggregate-read
-    read-requires
-    enum-known-n
-    slice-aggregate-report
-    slice-aggregate-report-2
-    slice-aggregate-report-3
-    report-requires
-    array-share-prefix-bytes
-    slice-aggregate-say-return
-    say-return-requires
-    slice-aggregate-flush
-    flush-requires
-    enum-told
-    returns
-    returns-2)
+    tie.close (tie.spec large-buffer-requires slice-aggregate-read read-requires enum-known-n slice-aggregate-report slice-aggregate-report-2 slice-aggregate-report-3
+    report-requires array-share-prefix-bytes slice-aggregate-say-return say-return-requires slice-aggregate-flush flush-requires enum-told returns returns-2)

@@ -35,14 +35,4 @@ returns c = search needs
 
 pub row-start-spec : {M : Type 1} → statement M
 row-start-spec =
-    tie.close
-    (tie.spec
-    Inv-loop
-    μ-loop
-    loop-holds
-    sub-left
-    row-end-requires
-    next-row-requires
-    loop-less
-    loop-again
-    returns)
+    tie.close (tie.spec Inv-loop μ-loop loop-holds sub-left row-end-requires next-row-requires loop-less loop-again returns)

@@ -72,21 +72,5 @@ returns-7 c = search needs
 
 pub alone-spec : {M : Type 1} → statement M
 alone-spec =
-    tie.close
-    (tie.spec
-    enum-told
-    enum-told-2
-    enum-told-3
-    enum-told-4
-    enum-told-5
-    over-none-requires
-    enum-told-6
-    over-none-requires-2
-    enum-told-7
-    returns
-    returns-2
-    returns-3
-    returns-4
-    returns-5
-    returns-6
-    returns-7)
+    tie.close (tie.spec enum-told enum-told-2 enum-told-3 enum-told-4 enum-told-5 over-none-requires enum-told-6 over-none-requires-2 enum-told-7 returns returns-2
+    returns-3 returns-4 returns-5 returns-6 returns-7)

@@ -68,20 +68,5 @@ returns-7 c = search needs
 
 pub with-file-spec : {M : Type 1} → statement M
 with-file-spec =
-    tie.close
-    (tie.spec
-    enum-told
-    enum-told-2
-    enum-told-3
-    over-none-requires
-    enum-told-4
-    enum-told-5
-    enum-told-6
-    enum-told-7
-    returns
-    returns-2
-    returns-3
-    returns-4
-    returns-5
-    returns-6
-    returns-7)
+    tie.close (tie.spec enum-told enum-told-2 enum-told-3 over-none-requires enum-told-4 enum-told-5 enum-told-6 enum-told-7 returns returns-2 returns-3 returns-4
+    returns-5 returns-6 returns-7)

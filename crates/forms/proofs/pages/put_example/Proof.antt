@@ -35,13 +35,5 @@ returns c =
 
 pub put-example-spec : {M : Type 1} → statement M
 put-example-spec =
-    tie.close
-    (tie.spec
-    slice-aggregate-charge-in
-    charge-in-requires
-    slice-aggregate-print-judged
-    print-judged-requires
-    put-byte-requires
-    put-usage-requires
-    same-length
+    tie.close (tie.spec slice-aggregate-charge-in charge-in-requires slice-aggregate-print-judged print-judged-requires put-byte-requires put-usage-requires same-length
     returns)

@@ -36,13 +36,4 @@ returns-2 c =
 
 pub put-expected-spec : {M : Type 1} → statement M
 put-expected-spec =
-    tie.close
-    (tie.spec
-    slice-aggregate-put-text
-    put-text-requires
-    slice-aggregate-put-text-2
-    put-text-requires-2
-    same-length
-    returns
-    same-length-2
-    returns-2)
+    tie.close (tie.spec slice-aggregate-put-text put-text-requires slice-aggregate-put-text-2 put-text-requires-2 same-length returns same-length-2 returns-2)

@@ -37,13 +37,5 @@ returns c =
 
 pub put-line-bad-spec : {M : Type 1} → statement M
 put-line-bad-spec =
-    tie.close
-    (tie.spec
-    slice-aggregate-put-text
-    put-text-requires
-    put-decimal-requires
-    slice-aggregate-put-text-2
-    put-text-requires-2
-    put-expected-requires
-    same-length
+    tie.close (tie.spec slice-aggregate-put-text put-text-requires put-decimal-requires slice-aggregate-put-text-2 put-text-requires-2 put-expected-requires same-length
     returns)

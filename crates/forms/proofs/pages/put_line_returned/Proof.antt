@@ -34,12 +34,4 @@ returns c =
 
 pub put-line-returned-spec : {M : Type 1} → statement M
 put-line-returned-spec =
-    tie.close
-    (tie.spec
-    slice-aggregate-put-text
-    put-text-requires
-    put-decimal-requires
-    slice-aggregate-put-text-2
-    put-text-requires-2
-    same-length
-    returns)
+    tie.close (tie.spec slice-aggregate-put-text put-text-requires put-decimal-requires slice-aggregate-put-text-2 put-text-requires-2 same-length returns)

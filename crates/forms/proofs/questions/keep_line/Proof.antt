@@ -49,16 +49,4 @@ returns-2 c = line-left (c .before .args .k) (c .before .args .a) (c .before .ar
 
 pub keep-line-spec : {M : Type 1} → statement M
 keep-line-spec =
-    tie.close
-    (tie.spec
-    mul-at
-    keep-requires
-    add-keep
-    keep-requires-2
-    add-keep-2
-    keep-requires-3
-    add-keep-3
-    keep-requires-4
-    same-length
-    returns
-    returns-2)
+    tie.close (tie.spec mul-at keep-requires add-keep keep-requires-2 add-keep-2 keep-requires-3 add-keep-3 keep-requires-4 same-length returns returns-2)

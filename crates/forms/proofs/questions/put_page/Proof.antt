@@ -51,15 +51,5 @@ returns c =
 
 pub put-page-spec : {M : Type 1} → statement M
 put-page-spec =
-    tie.close
-    (tie.spec
-    charge-in-requires
-    shared-slice-copy-out-t12
-    kept-requires
-    mul-end
-    sub-print-judged
-    part-print-judged-start
-    part-print-judged-end
-    print-judged-requires
-    same-length
-    returns)
+    tie.close (tie.spec charge-in-requires shared-slice-copy-out-t12 kept-requires mul-end sub-print-judged part-print-judged-start part-print-judged-end
+    print-judged-requires same-length returns)

@@ -41,13 +41,4 @@ returns-3 c = (rw (c .before .question3 .given .1) refl, rw (c .before .question
 
 pub take-spec : {M : Type 1} → statement M
 take-spec =
-    tie.close
-    (tie.spec
-    enum-known-question
-    take-next-requires
-    enum-known-question-2
-    enum-known-question-3
-    same-length
-    returns
-    returns-2
-    returns-3)
+    tie.close (tie.spec enum-known-question take-next-requires enum-known-question-2 enum-known-question-3 same-length returns returns-2 returns-3)

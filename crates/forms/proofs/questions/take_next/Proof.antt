@@ -86,17 +86,5 @@ returns-3 c =
 
 pub take-next-spec : {M : Type 1} → statement M
 take-next-spec =
-    tie.close
-    (tie.spec
-    holds-return-requires
-    one-more-requires
-    returns
-    read-four-requires
-    enum-known-a
-    keep-line-requires
-    one-more-requires-2
-    enum-told
-    one-more-requires-3
-    same-length
-    returns-2
-    returns-3)
+    tie.close (tie.spec holds-return-requires one-more-requires returns read-four-requires enum-known-a keep-line-requires one-more-requires-2 enum-told
+    one-more-requires-3 same-length returns-2 returns-3)

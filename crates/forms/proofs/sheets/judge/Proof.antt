@@ -39,14 +39,4 @@ returns-2 c =
 
 pub judge-spec : {M : Type 1} → statement M
 judge-spec =
-    tie.close
-    (tie.spec
-    slice-aggregate-read-sheet
-    read-sheet-requires
-    enum-told
-    judge-sheet-requires
-    enum-known-refusal
-    same-length
-    returns
-    same-length-2
-    returns-2)
+    tie.close (tie.spec slice-aggregate-read-sheet read-sheet-requires enum-told judge-sheet-requires enum-known-refusal same-length returns same-length-2 returns-2)

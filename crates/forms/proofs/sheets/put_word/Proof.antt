@@ -34,14 +34,4 @@ returns-2 c = rw (c .before .before .before .before .before .verdict .given .1) 
 
 pub put-word-spec : {M : Type 1} → statement M
 put-word-spec =
-    tie.close
-    (tie.spec
-    enum-told
-    slice-aggregate-put-text
-    put-text-requires
-    enum-known-verdict
-    put-refusal-requires
-    same-length
-    returns
-    same-length-2
-    returns-2)
+    tie.close (tie.spec enum-told slice-aggregate-put-text put-text-requires enum-known-verdict put-refusal-requires same-length returns same-length-2 returns-2)

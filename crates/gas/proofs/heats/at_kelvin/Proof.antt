@@ -68,15 +68,4 @@ returns c =
 
 pub at-kelvin-spec : {M : Type 1} → statement M
 at-kelvin-spec =
-    tie.close
-    (tie.spec
-    figure-requires
-    mul-sum
-    o2-at-requires
-    mul-sum-2
-    co2-at-requires
-    mul-sum-3
-    h2o-at-requires
-    mul-sum-4
-    sum-requires
-    returns)
+    tie.close (tie.spec figure-requires mul-sum o2-at-requires mul-sum-2 co2-at-requires mul-sum-3 h2o-at-requires mul-sum-4 sum-requires returns)

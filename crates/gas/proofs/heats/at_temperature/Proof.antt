@@ -65,13 +65,4 @@ returns-2 c =
 
 pub at-temperature-spec : {M : Type 1} → statement M
 at-temperature-spec =
-    tie.close
-    (tie.spec
-    to-u64-requires
-    at-kelvin-requires
-    returns
-    at-kelvin-requires-2
-    add-at-kelvin
-    at-kelvin-requires-3
-    along-requires
-    returns-2)
+    tie.close (tie.spec to-u64-requires at-kelvin-requires returns at-kelvin-requires-2 add-at-kelvin at-kelvin-requires-3 along-requires returns-2)

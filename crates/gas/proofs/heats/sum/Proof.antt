@@ -75,15 +75,4 @@ returns c =
 
 pub sum-spec : {M : Type 1} → statement M
 sum-spec =
-    tie.close
-    (tie.spec
-    mul-plus
-    mul-plus-2
-    add-plus
-    mul-plus-3
-    add-plus-2
-    of-u64-requires
-    of-u64-requires-2
-    mul-t13
-    sub-t14
-    returns)
+    tie.close (tie.spec mul-plus mul-plus-2 add-plus mul-plus-3 add-plus-2 of-u64-requires of-u64-requires-2 mul-t13 sub-t14 returns)

@@ -45,12 +45,4 @@ returns-3 c =
 
 pub admit-at-spec : {M : Type 1} → statement M
 admit-at-spec =
-    tie.close
-    (tie.spec
-    admit-requires
-    enum-known-r
-    enum-known-gas
-    covered-requires
-    returns
-    returns-2
-    returns-3)
+    tie.close (tie.spec admit-requires enum-known-r enum-known-gas covered-requires returns returns-2 returns-3)

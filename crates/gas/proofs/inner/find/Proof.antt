@@ -93,13 +93,4 @@ returns-3 c =
 
 pub find-spec : {M : Type 1} → statement M
 find-spec =
-    tie.close
-    (tie.spec
-    weigh-requires
-    at-kelvin-requires
-    returns
-    at-kelvin-requires-2
-    returns-2
-    reached-requires
-    same-length
-    returns-3)
+    tie.close (tie.spec weigh-requires at-kelvin-requires returns at-kelvin-requires-2 returns-2 reached-requires same-length returns-3)

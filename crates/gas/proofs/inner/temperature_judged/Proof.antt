@@ -67,13 +67,4 @@ returns-3 c =
 
 pub temperature-judged-spec : {M : Type 1} → statement M
 temperature-judged-spec =
-    tie.close
-    (tie.spec
-    returns
-    admit-requires
-    enum-known-gas
-    find-requires
-    enum-known-r
-    same-length
-    returns-2
-    returns-3)
+    tie.close (tie.spec returns admit-requires enum-known-gas find-requires enum-known-r same-length returns-2 returns-3)

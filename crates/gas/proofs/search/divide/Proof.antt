@@ -80,14 +80,4 @@ returns c =
 
 pub divide-spec : {M : Type 1} → statement M
 divide-spec =
-    tie.close
-    (tie.spec
-    gap-requires
-    gap-requires-2
-    mul-of-u64
-    thousandths-requires
-    add-of-u64
-    of-u64-requires
-    rem-of-u64
-    of-u64-requires-2
-    returns)
+    tie.close (tie.spec gap-requires gap-requires-2 mul-of-u64 thousandths-requires add-of-u64 of-u64-requires rem-of-u64 of-u64-requires-2 returns)

@@ -106,16 +106,5 @@ returns-2 c =
 
 pub reached-spec : {M : Type 1} → statement M
 reached-spec =
-    tie.close
-    (tie.spec
-    lay-requires
-    same-length
-    returns
-    halve-requires
-    lay-requires-2
-    at-kelvin-requires
-    add-at-kelvin
-    at-kelvin-requires-2
-    divide-requires
-    same-length-2
+    tie.close (tie.spec lay-requires same-length returns halve-requires lay-requires-2 at-kelvin-requires add-at-kelvin at-kelvin-requires-2 divide-requires same-length-2
     returns-2)

@@ -109,21 +109,5 @@ returns-2 c =
 
 pub cut-by-spec : {M : Type 1} → statement M
 cut-by-spec =
-    tie.close
-    (tie.spec
-    multiply-requires
-    power-requires
-    power-requires-2
-    mul-with-rest
-    div-with-rest
-    add-with-rest
-    rem-with-rest
-    with-rest-requires
-    sub-power
-    power-requires-3
-    div-with-rest-2
-    rem-with-rest-2
-    add-with-rest-2
-    with-rest-requires-2
-    returns
-    returns-2)
+    tie.close (tie.spec multiply-requires power-requires power-requires-2 mul-with-rest div-with-rest add-with-rest rem-with-rest with-rest-requires sub-power
+    power-requires-3 div-with-rest-2 rem-with-rest-2 add-with-rest-2 with-rest-requires-2 returns returns-2)

@@ -78,13 +78,4 @@ returns-3 c = sym (decided (c .before .before) ∙ rw (low-is (c .before) (c .if
 
 pub lies-spec : {M : Type 1} → statement M
 lies-spec =
-    tie.close
-    (tie.spec
-    returns
-    significand-of-requires
-    places-of-requires
-    cut-by-requires
-    of-u64-requires
-    of-u64-requires-2
-    returns-2
-    returns-3)
+    tie.close (tie.spec returns significand-of-requires places-of-requires cut-by-requires of-u64-requires of-u64-requires-2 returns-2 returns-3)

@@ -66,13 +66,4 @@ returns-2 c =
 
 pub station-judged-spec : {M : Type 1} → statement M
 station-judged-spec =
-    tie.close
-    (tie.spec
-    admit-at-requires
-    enum-known-gas
-    specific-at-requires
-    total-mass-requires
-    of-u64-requires
-    enum-known-r
-    returns
-    returns-2)
+    tie.close (tie.spec admit-at-requires enum-known-gas specific-at-requires total-mass-requires of-u64-requires enum-known-r returns returns-2)

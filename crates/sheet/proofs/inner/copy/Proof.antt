@@ -53,17 +53,4 @@ returns c = let s = c .before .before in c .before .loop .inv .1 ∙ copy-whole 
 
 pub copy-spec : {M : Type 1} → statement M
 copy-spec =
-    tie.close
-    (tie.spec
-    Inv-loop
-    μ-loop
-    loop-holds
-    mul-list
-    element-copy-out-list
-    mul-list-2
-    slice-write-list
-    add-i
-    loop-less
-    loop-again
-    same-length
-    returns)
+    tie.close (tie.spec Inv-loop μ-loop loop-holds mul-list element-copy-out-list mul-list-2 slice-write-list add-i loop-less loop-again same-length returns)

@@ -36,11 +36,4 @@ returns-2 c =
 
 pub bad-row-spec : {M : Type 1} → statement M
 bad-row-spec =
-    tie.close
-    (tie.spec
-    add-kelvin
-    over-limit-requires
-    returns
-    sub-breaks-step
-    breaks-step-requires
-    returns-2)
+    tie.close (tie.spec add-kelvin over-limit-requires returns sub-breaks-step breaks-step-requires returns-2)

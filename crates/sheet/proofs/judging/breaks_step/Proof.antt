@@ -96,23 +96,5 @@ returns-4 c =
 
 pub breaks-step-spec : {M : Type 1} → statement M
 breaks-step-spec =
-    tie.close
-    (tie.spec
-    o2-at-requires
-    add-o2-at
-    o2-at-requires-2
-    returns
-    add-co2-at
-    co2-at-requires
-    co2-at-requires-2
-    returns-2
-    add-h2o-at
-    h2o-at-requires
-    h2o-at-requires-2
-    returns-3
-    add-figure
-    figure-requires
-    figure-requires-2
-    sub-rise
-    mul-result
-    returns-4)
+    tie.close (tie.spec o2-at-requires add-o2-at o2-at-requires-2 returns add-co2-at co2-at-requires co2-at-requires-2 returns-2 add-h2o-at h2o-at-requires
+    h2o-at-requires-2 returns-3 add-figure figure-requires figure-requires-2 sub-rise mul-result returns-4)

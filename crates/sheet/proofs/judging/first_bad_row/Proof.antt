@@ -50,16 +50,4 @@ returns-3 c = omega (arith, no-bad-row (c .before .before .before .before .befor
 
 pub first-bad-row-spec : {M : Type 1} → statement M
 first-bad-row-spec =
-    tie.close
-    (tie.spec
-    Inv-loop
-    μ-loop
-    over-limit-requires
-    returns
-    loop-holds
-    bad-row-requires
-    returns-2
-    add-row
-    loop-less
-    loop-again
-    returns-3)
+    tie.close (tie.spec Inv-loop μ-loop over-limit-requires returns loop-holds bad-row-requires returns-2 add-row loop-less loop-again returns-3)

@@ -132,34 +132,6 @@ returns-2 c = finish _ _ _ _ _ _ _ _ _ _ _ _ _ (c .before .before .loop .inv) (o
 
 pub go-spec : {M : Type 1} → statement M
 go-spec =
-    tie.close
-    (tie.spec
-    Inv-loop
-    μ-loop
-    loop-holds
-    mul-place
-    step-at-requires
-    mul-step
-    sub-step
-    part-step-start
-    part-step-end
-    step-requires
-    enum-known-number
-    tell-stopped-requires
-    same-length
-    same-length-2
-    same-length-3
-    returns
-    enum-known-next
-    mul-mk
-    slice-set-from-mk
-    mul-left
-    slice-set-from-left
-    add-i
-    loop-less
-    loop-again
-    tell-done-requires
-    same-length-4
-    same-length-5
-    same-length-6
-    returns-2)
+    tie.close (tie.spec Inv-loop μ-loop loop-holds mul-place step-at-requires mul-step sub-step part-step-start part-step-end step-requires enum-known-number
+    tell-stopped-requires same-length same-length-2 same-length-3 returns enum-known-next mul-mk slice-set-from-mk mul-left slice-set-from-left add-i loop-less loop-again
+    tell-done-requires same-length-4 same-length-5 same-length-6 returns-2)

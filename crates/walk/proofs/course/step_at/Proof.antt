@@ -67,20 +67,5 @@ returns c =
 
 pub step-at-spec : {M : Type 1} → statement M
 step-at-spec =
-    tie.close
-    (tie.spec
-    mul-at
-    mul-t6
-    shared-slice-copy-out-t8
-    add-t9
-    mul-t10
-    shared-slice-copy-out-t12
-    slice-aggregate-fuel-in
-    fuel-in-requires
-    add-t15
-    mul-t16
-    shared-slice-copy-out-t18
-    add-t19
-    mul-t20
-    shared-slice-copy-out-t22
-    returns)
+    tie.close (tie.spec mul-at mul-t6 shared-slice-copy-out-t8 add-t9 mul-t10 shared-slice-copy-out-t12 slice-aggregate-fuel-in fuel-in-requires add-t15 mul-t16
+    shared-slice-copy-out-t18 add-t19 mul-t20 shared-slice-copy-out-t22 returns)

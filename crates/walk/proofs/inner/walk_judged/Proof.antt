@@ -110,19 +110,5 @@ returns-4 c =
 
 pub walk-judged-spec : {M : Type 1} → statement M
 walk-judged-spec =
-    tie.close
-    (tie.spec
-    wrong-steps-requires
-    returns
-    short-lists-requires
-    returns-2
-    admit-at-requires
-    enum-known-r
-    enum-known-gas
-    begin-requires
-    go-requires
-    returns-3
-    same-length
-    same-length-2
-    same-length-3
-    returns-4)
+    tie.close (tie.spec wrong-steps-requires returns short-lists-requires returns-2 admit-at-requires enum-known-r enum-known-gas begin-requires go-requires returns-3
+    same-length same-length-2 same-length-3 returns-4)

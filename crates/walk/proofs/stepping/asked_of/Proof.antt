@@ -106,17 +106,5 @@ returns-4 c =
 
 pub asked-of-spec : {M : Type 1} → statement M
 asked-of-spec =
-    tie.close
-    (tie.spec
-    add-fuel-requires
-    enum-told
-    enum-known-gas
-    wrong-heat-requires
-    returns
-    lean-requires
-    returns-2
-    heat-at-requires
-    step-heat-requires
-    target-requires
-    returns-3
-    returns-4)
+    tie.close (tie.spec add-fuel-requires enum-told enum-known-gas wrong-heat-requires returns lean-requires returns-2 heat-at-requires step-heat-requires target-requires
+    returns-3 returns-4)

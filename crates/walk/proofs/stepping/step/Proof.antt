@@ -82,18 +82,5 @@ returns-3 c =
 
 pub step-spec : {M : Type 1} → statement M
 step-spec =
-    tie.close
-    (tie.spec
-    asked-of-requires
-    enum-known-number
-    enum-known-asked
-    find-requires
-    enum-known-r
-    number-of-requires
-    enum-known-t
-    stand-requires
-    returns
-    same-length
-    returns-2
-    same-length-2
-    returns-3)
+    tie.close (tie.spec asked-of-requires enum-known-number enum-known-asked find-requires enum-known-r number-of-requires enum-known-t stand-requires returns same-length
+    returns-2 same-length-2 returns-3)

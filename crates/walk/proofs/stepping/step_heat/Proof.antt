@@ -57,11 +57,4 @@ returns c =
 
 pub step-heat-spec : {M : Type 1} → statement M
 step-heat-spec =
-    tie.close
-    (tie.spec
-    mass-added-requires
-    mul-of-u64
-    of-u64-requires
-    mul-burn
-    add-t5
-    returns)
+    tie.close (tie.spec mass-added-requires mul-of-u64 of-u64-requires mul-burn add-t5 returns)
