@@ -9,6 +9,7 @@ use crate::walks;
 use air::Millikelvin;
 use burning::BurnAnswer;
 use burning::Charge;
+use gas::Above;
 use gas::Heat;
 use sheet::SheetAnswer;
 use text::Whole;
@@ -152,10 +153,10 @@ fn tell_gas(
     let t = Millikelvin(number);
     match quantity {
         Quantity::Heat => {
-            wording::put_heat(gas::inner::gas_heat_judged(charge, t, sheet, air), out, at)
+            wording::put_heat(gas::inner::heat_judged(Above::Zero, charge, t, sheet, air), out, at)
         }
         Quantity::Content => {
-            wording::put_heat(gas::inner::content_judged(charge, t, sheet, air), out, at)
+            wording::put_heat(gas::inner::heat_judged(Above::Fifteen, charge, t, sheet, air), out, at)
         }
         Quantity::Specific => {
             wording::put_specific(gas::inner::specific_judged(charge, t, sheet, air), out, at)

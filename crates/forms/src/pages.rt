@@ -7,6 +7,7 @@ ghost use mathlib.Core.List.{_++_};
 ghost use lib.ListN.{length};
 ghost use Rattle.rows.specs.Rows.{rowsH};
 ghost use Rattle.text.specs.Bytes.{bytesOf};
+ghost use Rattle.text.specs.Decimal.{decimal};
 ghost use Rattle.text.specs.Puts.{Puts, Stands};
 ghost use Rattle.console.specs.Answers.{Judged};
 ghost use Rattle.forms.specs.Limits.{usageRoom, exampleRoom, noteRoom};
@@ -63,16 +64,24 @@ pub fn put_example(
     put_usage(out, line)
 }
 
+// A word, a number and what is said of it.
+fn put_note(word: &[u8], number: u64, said: &[u8], out: &mut [u8]) -> usize
+    ensures { λ r. ⌜ Puts ((length (now (word .entry)) + 20) + length (now (said .entry))) ((now (word .entry) ++ decimal number) ++ now (said .entry)) (now (out .entry)) 0 r (now (out .exit)) ⌝ }
+{
+    let next = text::put_text(word, out, 0);
+    let after = text::put_decimal(number, out, next);
+    text::put_text(said, out, after)
+}
+
 // Which row of a sheet's text has a carriage return.
 pub fn put_row_returned(row: u32, out: &mut [u8]) -> usize
     ensures { λ r. ⌜ Puts noteRoom (rowReturned row) (now (out .entry)) 0 r (now (out .exit)) ⌝ }
 {
-    let word = text::put_text(b"row ", out, 0);
-    let next = text::put_decimal(row as u64, out, word);
-    text::put_text(
+    put_note(
+        b"row ",
+        row as u64,
         b" has a carriage return; lines end in a line feed alone\n",
         out,
-        next,
     )
 }
 
@@ -80,12 +89,11 @@ pub fn put_row_returned(row: u32, out: &mut [u8]) -> usize
 pub fn put_line_returned(line: u64, out: &mut [u8]) -> usize
     ensures { λ r. ⌜ Puts noteRoom (lineReturned line) (now (out .entry)) 0 r (now (out .exit)) ⌝ }
 {
-    let word = text::put_text(b"line ", out, 0);
-    let next = text::put_decimal(line, out, word);
-    text::put_text(
+    put_note(
+        b"line ",
+        line,
         b": a carriage return; lines end in a line feed alone\n",
         out,
-        next,
     )
 }
 
@@ -104,12 +112,11 @@ fn put_expected(line: u64, out: &mut [u8], at: usize) -> usize
 pub fn put_line_bad(line: u64, out: &mut [u8]) -> usize
     ensures { λ r. ⌜ Puts noteRoom (lineBad line) (now (out .entry)) 0 r (now (out .exit)) ⌝ }
 {
-    let word = text::put_text(b"line ", out, 0);
-    let number = text::put_decimal(line, out, word);
-    let next = text::put_text(
+    let next = put_note(
+        b"line ",
+        line,
         b": expected four whole numbers parted by tabs: ",
         out,
-        number,
     );
     put_expected(line, out, next)
 }

@@ -11,6 +11,9 @@ use Rattle.air.specs.Limits.{lookPlaces, coldest, hottest}
 use Rattle.air.specs.Inverse.{looks, unreached, Found, found, written}
 use Rattle.sheet.specs.Answers.{sheetLines}
 use Rattle.burning.specs.declared.Charge.{Charge}
+use Rattle.burning.specs.declared.Gas.{Gas}
+use Rattle.gas.specs.declared.Above.{Above}
+use Rattle.gas.specs.declared.Above.the-variants.{Zero, Fifteen}
 use Rattle.gas.specs.declared.HeatAnswer.{HeatAnswer}
 use Rattle.gas.specs.declared.HeatAnswer.the-variants.{Is as HeatIs, Refused as HeatRefused}
 use Rattle.gas.specs.declared.SpecificAnswer.{SpecificAnswer}
@@ -48,6 +51,14 @@ abbrev pub searchOrder : Weights → Charge → List ℕ → ℕ → List Line
 searchOrder w ch s places = sheetLines s ++ (10 when ltb places lookPlaces ∷ chargeLines w ch)
 
 -- ---- what each call tells
+-- a gas heat is counted above 0 K, a content above 15 °C
+abbrev pub heatAbove : Above → Weights → List ℕ → Gas → ℕ → ℤ
+heatAbove Zero = gasHeat
+heatAbove Fifteen = contentAbove15
+
+abbrev pub toldAbove : Above → Weights → Charge → ℤ → List ℕ → Told ℤ
+toldAbove above w ch mk s = first (heatOrder w ch mk s) (heatAbove above w s (gasOf ch) (up mk))
+
 abbrev pub heatTold : Weights → Charge → ℤ → List ℕ → Told ℤ
 heatTold w ch mk s = first (heatOrder w ch mk s) (gasHeat w s (gasOf ch) (up mk))
 

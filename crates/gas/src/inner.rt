@@ -1,5 +1,6 @@
 // The inner doors of gas: a charge tested in parts, with its heats and its search past the tests, for the walk and the figures above; and what each entry tells past
 // the judge, for a program that keeps one sheet for many requests. The sheet was judged once, and the air column is lent.
+use crate::Above;
 use crate::Heat;
 use crate::HeatAnswer;
 use crate::SpecificAnswer;
@@ -25,7 +26,7 @@ ghost use Rattle.sheet.specs.Sheet.{Accepted};
 ghost use Rattle.burning.specs.Burning.{document01, gasOf, Burns};
 ghost use Rattle.burning.specs.Answers.{paperGas, chargeLines};
 ghost use Rattle.gas.specs.Heat.{gasHeat, contentAbove15, specificContent};
-ghost use Rattle.gas.specs.Answers.{paperHeat, paperSpecific, temperatureLines, heatTold, contentTold, specificTold, Inverted, Temperature};
+ghost use Rattle.gas.specs.Answers.{paperHeat, paperSpecific, temperatureLines, heatAbove, toldAbove, specificTold, Inverted, Temperature};
 
 // The gas of a charge at a temperature, refusals 4, 5 and 6 tested.
 pub fn admit_at(charge: Charge, t: Millikelvin) -> Admitted
@@ -60,6 +61,23 @@ pub(crate) fn content_at(gas: Gas, t: Millikelvin, sheet: &[u32], air: &[u32; ro
     heats::less(heat_at(gas, t, sheet, air), fifteen)
 }
 
+// The heat at a temperature, above 0 K or above 15 °C.
+fn heat_above(
+    above: Above,
+    gas: Gas,
+    t: Millikelvin,
+    sheet: &[u32],
+    air: &[u32; rows::ROWS],
+) -> Heat
+    requires { ⌜ Burns document01 gas × Accepted (now sheet) × (now air ≡ rowsH) × (inZ (pos coldest) (pos hottest) (t .0) ≡ true) ⌝ }
+    ensures { λ r. ⌜ r .0 ≡ heatAbove above document01 (now (sheet .entry)) gas (up (t .0)) ⌝ }
+{
+    match above {
+        Above::Zero => heat_at(gas, t, sheet, air),
+        Above::Fifteen => content_at(gas, t, sheet, air),
+    }
+}
+
 // The specific content at a temperature.
 pub fn specific_at(gas: Gas, t: Millikelvin, sheet: &[u32], air: &[u32; rows::ROWS]) -> i64
     requires { ⌜ Burns document01 gas × Accepted (now sheet) × (now air ≡ rowsH) × (inZ (pos coldest) (pos hottest) (t .0) ≡ true) ⌝ }
@@ -92,34 +110,19 @@ pub fn find(
     search::reached(target, last, looks, masses, sheet, air)
 }
 
-// The gas heat of a charge at a temperature, over a sheet that was judged: refusals 4, 5 and 6 tested.
-pub fn gas_heat_judged(
+// A heat of a charge at a temperature, over a sheet that was judged: refusals 4, 5 and 6 tested.
+pub fn heat_judged(
+    above: Above,
     charge: Charge,
     t: Millikelvin,
     sheet: &[u32],
     air: &[u32; rows::ROWS],
 ) -> HeatAnswer
     requires { ⌜ Accepted (now sheet) × (now air ≡ rowsH) ⌝ }
-    ensures { λ r. ⌜ paperHeat r ≡ heatTold document01 charge (t .0) (now (sheet .entry)) ⌝ }
+    ensures { λ r. ⌜ paperHeat r ≡ toldAbove above document01 charge (t .0) (now (sheet .entry)) ⌝ }
 {
     match admit_at(charge, t) {
-        Admitted::Burning(gas) => HeatAnswer::Is(heat_at(gas, t, sheet, air)),
-        Admitted::Refused(r) => HeatAnswer::Refused(r),
-    }
-}
-
-// The content of a charge above 15 °C at a temperature, over a sheet that was judged.
-pub fn content_judged(
-    charge: Charge,
-    t: Millikelvin,
-    sheet: &[u32],
-    air: &[u32; rows::ROWS],
-) -> HeatAnswer
-    requires { ⌜ Accepted (now sheet) × (now air ≡ rowsH) ⌝ }
-    ensures { λ r. ⌜ paperHeat r ≡ contentTold document01 charge (t .0) (now (sheet .entry)) ⌝ }
-{
-    match admit_at(charge, t) {
-        Admitted::Burning(gas) => HeatAnswer::Is(content_at(gas, t, sheet, air)),
+        Admitted::Burning(gas) => HeatAnswer::Is(heat_above(above, gas, t, sheet, air)),
         Admitted::Refused(r) => HeatAnswer::Refused(r),
     }
 }

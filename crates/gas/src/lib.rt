@@ -16,6 +16,12 @@ ghost use Rattle.gas.specs.Answers.{paperHeat, paperSpecific, heatTold, 
 // A gas heat, in mg times 0.00001 C.H.U./lb.
 pub struct Heat(pub i64);
 
+// What a heat is counted above: 0 K for a gas heat, 15 °C for a content.
+pub enum Above {
+    Zero,
+    Fifteen,
+}
+
 // A gas heat or a content, or the refusal.
 pub enum HeatAnswer {
     Is(Heat),
@@ -40,7 +46,7 @@ pub fn gas_heat(charge: Charge, t: Millikelvin, sheet: &[u32]) -> HeatAnswer
 {
     let air = rows::columns::heat_column();
     match sheet::inner::judge(sheet, &air) {
-        SheetAnswer::Good => inner::gas_heat_judged(charge, t, sheet, &air),
+        SheetAnswer::Good => inner::heat_judged(Above::Zero, charge, t, sheet, &air),
         SheetAnswer::Refused(r) => HeatAnswer::Refused(r),
     }
 }
@@ -51,7 +57,7 @@ pub fn content(charge: Charge, t: Millikelvin, sheet: &[u32]) -> HeatAnswer
 {
     let air = rows::columns::heat_column();
     match sheet::inner::judge(sheet, &air) {
-        SheetAnswer::Good => inner::content_judged(charge, t, sheet, &air),
+        SheetAnswer::Good => inner::heat_judged(Above::Fifteen, charge, t, sheet, &air),
         SheetAnswer::Refused(r) => HeatAnswer::Refused(r),
     }
 }

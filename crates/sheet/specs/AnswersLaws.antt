@@ -1,7 +1,7 @@
 -- What is told by the reader and by the judge: a text is read as a list exactly where it is the sheet of that list, and a list is good exactly where it is an
 -- accepted sheet. Assumes nothing.
 use borrow.Author.Tests.{eqb-true, ltb-false, lt-ltb, le-ltb, eq-eqb, ne-eqb}
-use mathlib.Core.Path.{_≡_, refl, sym}
+use mathlib.Core.Path.{_≡_, refl, sym, ap, _∙_}
 use mathlib.Core.Bool.{Bool, true, false, not}
 use mathlib.Core.List.{List, [], _∷_, _++_}
 use Prim.Native.Nat.{ℕ, _≤_, _<_}
@@ -65,3 +65,10 @@ past-sheet {s} ls a h = rw (eq-eqb (length s) sheetNumbers (h .long), no-bad-row
 
 pub stopped-by-sheet : {A : Type 0} (s : List ℕ) (r : Refusal) (ls : List Line) (a : A) → paperSheet (Refused r) ≡ judgeTold s → first (sheetLines s ++ ls) a ≡ refused r
 stopped-by-sheet s r ls a e = sym (stopped-first (sheetLines s) ls tt a r e)
+
+-- and by the judge's own answer: a good one accepts, a refused one is told first
+pub good-accepted : {a : SheetAnswer} (s : List ℕ) → paperSheet a ≡ judgeTold s → a ≡ Good → Accepted s
+good-accepted s e g = accepted-of-told s (sym e ∙ ap paperSheet g)
+
+pub refused-first : {A : Type 0} {a : SheetAnswer} {r : Refusal} (s : List ℕ) (ls : List Line) (x : A) → paperSheet a ≡ judgeTold s → a ≡ Refused r → refused r ≡ first (sheetLines s ++ ls) x
+refused-first {r} s ls x e g = sym (stopped-by-sheet s r ls x (ap paperSheet (sym g) ∙ e))

@@ -12,12 +12,12 @@ use Rattle.walk.specs.Step.{stepIn, numbersOfStep}
 pub step-back : (p : Step) → stepIn (numbersOfStep p) ≡ p
 step-back p = refl
 
-pub step-count : (p : Step) → length (numbersOfStep p) ≡ stepNumbers
-step-count p = refl
-
 pub numbers-back : (l : List ℤ) → stepNumbers ≤ length l → numbersOfStep (stepIn l) ≡ take stepNumbers l
 numbers-back [] h = absurd (omega arith)
 numbers-back (a ∷ []) h = absurd (omega arith)
 numbers-back (a ∷ b ∷ []) h = absurd (omega arith)
 numbers-back (a ∷ b ∷ c ∷ []) h = absurd (omega arith)
 numbers-back (a ∷ b ∷ c ∷ d ∷ l) h = refl
+
+pub step-count : (p : Step) → length (numbersOfStep p) ≡ stepNumbers
+step-count p = refl

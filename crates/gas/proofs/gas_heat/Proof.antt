@@ -1,9 +1,7 @@
--- `gas_heat`: a sheet that is not accepted is told first (`stopped-by-sheet`); with an accepted one `gas_heat_judged` tells the rest (`accepted-of-told`).
+-- `gas_heat`: a sheet that is not accepted is told first (`refused-first`); with an accepted one `heat_judged` tells the rest (`good-accepted`).
 use borrow.Author.Needs.{needs}
-use mathlib.Core.Path.{sym, ap, _∙_}
 use mathlib.Core.List.{_++_}
-use Rattle.sheet.specs.Answers.{paperSheet}
-use Rattle.sheet.specs.AnswersLaws.{accepted-of-told, stopped-by-sheet}
+use Rattle.sheet.specs.AnswersLaws.{good-accepted, refused-first}
 use Rattle.burning.specs.Answers.{chargeLines}
 use Rattle.gas.specs.Answers.{temperatureLines}
 use Rattle.burning.specs.Burning.{document01}
@@ -19,25 +17,19 @@ judge-requires c κs = search needs
 enum-told : tie.Need-enum-told
 enum-told c = search needs
 
-gas-heat-judged-requires : tie.Need-gas-heat-judged-requires
-gas-heat-judged-requires c κs =
-    let at-judge = c .before .before .before in
-    let at-heat-column = at-judge .before .before in
-    (accepted-of-told _ (sym (at-judge .judge .ensures) ∙ ap paperSheet (c .before .enum-told .given .1)), at-heat-column .heat-column .ensures)
+heat-judged-requires : tie.Need-heat-judged-requires
+heat-judged-requires c κs = let j = c .before .before .before in (good-accepted _ (j .judge .ensures) (c .before .enum-told .given .1), j .before .before .heat-column .ensures)
 
 enum-known-r : tie.Need-enum-known-r
 enum-known-r c = search needs
 
 returns : tie.Need-returns
-returns c = c .gas-heat-judged .ensures
+returns c = c .heat-judged .ensures
 
 returns-2 : tie.Need-returns-2
 returns-2 c =
-    let at-judge = c .before .before .before in
-    let s = at-judge .before .before .before .before in
-    sym
-    (stopped-by-sheet (s .args .sheet .now) (c .before .r .given .0 .0) (chargeLines document01 (s .args .charge) ++ temperatureLines (s .args .t .0)) _
-    (ap paperSheet (sym (c .before .r .given .1)) ∙ at-judge .judge .ensures))
+    let s = c .before .before .before .before .before .before .before in
+    refused-first (s .args .sheet .now) (chargeLines document01 (s .args .charge) ++ temperatureLines (s .args .t .0)) _ (c .before .before .before .judge .ensures) (c .before .r .given .1)
 
 pub gas-heat-spec : {M : Type 1} → statement M
-gas-heat-spec = tie.close (tie.spec heat-column-requires judge-requires enum-told gas-heat-judged-requires enum-known-r returns returns-2)
+gas-heat-spec = tie.close (tie.spec heat-column-requires judge-requires enum-told heat-judged-requires enum-known-r returns returns-2)

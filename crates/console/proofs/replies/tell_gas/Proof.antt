@@ -9,8 +9,8 @@ use Rattle.console.proofs.replies.tell_gas.Tie as tie
 enum-told : tie.Need-enum-told
 enum-told c = search needs
 
-gas-heat-judged-requires : tie.Need-gas-heat-judged-requires
-gas-heat-judged-requires c κs = search needs
+heat-judged-requires : tie.Need-heat-judged-requires
+heat-judged-requires c κs = search needs
 
 put-heat-requires : tie.Need-put-heat-requires
 put-heat-requires c κs = search needs
@@ -18,8 +18,8 @@ put-heat-requires c κs = search needs
 enum-told-2 : tie.Need-enum-told-2
 enum-told-2 c = search needs
 
-content-judged-requires : tie.Need-content-judged-requires
-content-judged-requires c κs = search needs
+heat-judged-requires-2 : tie.Need-heat-judged-requires-2
+heat-judged-requires-2 c κs = search needs
 
 put-heat-requires-2 : tie.Need-put-heat-requires-2
 put-heat-requires-2 c κs = search needs
@@ -53,22 +53,22 @@ same-length c = search needs
 
 returns : tie.Need-returns
 returns c =
-    let at-gas-heat-judged = c .before .before .before .before in
-    let at-told = at-gas-heat-judged .before in
+    let at-heat-judged = c .before .before .before .before in
+    let at-told = at-heat-judged .before in
     let at-start = at-told .before .before .before .before in
     rw (at-told .enum-told .given .1)
-    (puts-wider (omega arith) (rw (back (at-start .fits .number)) at (rw (at-gas-heat-judged .gas-heat-judged .ensures) at (c .before .before .put-heat .ensures))))
+    (puts-wider (omega arith) (rw (back (at-start .fits .number)) at (rw (at-heat-judged .heat-judged .ensures) at (c .before .before .put-heat .ensures))))
 
 same-length-2 : tie.Need-same-length-2
 same-length-2 c = search needs
 
 returns-2 : tie.Need-returns-2
 returns-2 c =
-    let at-content-judged = c .before .before .before .before in
-    let at-told2 = at-content-judged .before in
+    let at-heat-judged2 = c .before .before .before .before in
+    let at-told2 = at-heat-judged2 .before in
     let at-start = at-told2 .before .before .before .before in
     rw (at-told2 .enum-told2 .given .1)
-    (puts-wider (omega arith) (rw (back (at-start .fits .number)) at (rw (at-content-judged .content-judged .ensures) at (c .before .before .put-heat2 .ensures))))
+    (puts-wider (omega arith) (rw (back (at-start .fits .number)) at (rw (at-heat-judged2 .heat-judged2 .ensures) at (c .before .before .put-heat2 .ensures))))
 
 same-length-3 : tie.Need-same-length-3
 same-length-3 c = search needs
@@ -103,6 +103,6 @@ returns-5 c =
 
 pub tell-gas-spec : {M : Type 1} → statement M
 tell-gas-spec =
-    tie.close (tie.spec enum-told gas-heat-judged-requires put-heat-requires enum-told-2 content-judged-requires put-heat-requires-2 enum-told-3 specific-judged-requires
+    tie.close (tie.spec enum-told heat-judged-requires put-heat-requires enum-told-2 heat-judged-requires-2 put-heat-requires-2 enum-told-3 specific-judged-requires
     put-specific-requires enum-told-4 ask-temperature-requires enum-told-5 station-judged-requires put-station-requires same-length returns same-length-2 returns-2
     same-length-3 returns-3 same-length-4 returns-4 same-length-5 returns-5)

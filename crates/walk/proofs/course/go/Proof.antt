@@ -75,10 +75,7 @@ enum-known-next : tie.Need-enum-known-next Inv-loop μ-loop
 enum-known-next c = search needs
 
 mul-mk : tie.Need-mul-mk Inv-loop μ-loop
-mul-mk c =
-    let at-loop-test = c .before .before .before .before .before .before .before .before .before .before in
-    let at-start = at-loop-test .before .before .before .before in
-    omega (arith, at-loop-test .loop-test, at-start .pre .1 .0)
+mul-mk c = let at = c .before .before .before .before .before .before .before .before .before .before in omega (arith, at .loop-test, at .before .before .before .before .pre .1 .0)
 
 slice-set-from-mk : tie.Need-slice-set-from-mk Inv-loop μ-loop
 slice-set-from-mk c =
@@ -87,10 +84,7 @@ slice-set-from-mk c =
     omega (arith, at-loop-test .loop-test, at-loop .loop .inv .same-t, at-loop .loop .inv .fit-t)
 
 mul-left : tie.Need-mul-left Inv-loop μ-loop
-mul-left c =
-    let at-loop-test = c .before .before .before .before .before .before .before .before .before .before in
-    let at-start = at-loop-test .before .before .before .before in
-    omega (arith, at-loop-test .loop-test, at-start .pre .1 .0)
+mul-left c = let at = c .before .before .before .before .before .before .before .before .before .before in omega (arith, at .loop-test, at .before .before .before .before .pre .1 .0)
 
 slice-set-from-left : tie.Need-slice-set-from-left Inv-loop μ-loop
 slice-set-from-left c =
@@ -99,10 +93,7 @@ slice-set-from-left c =
     omega (arith, at-loop-test .loop-test, at-loop .loop .inv .same-r, at-loop .loop .inv .fit-r)
 
 add-i : tie.Need-add-i Inv-loop μ-loop
-add-i c =
-    let at-loop-test = c .before .before .before .before .before .before .before .before .before .before in
-    let at-start = at-loop-test .before .before .before .before in
-    omega (arith, at-loop-test .loop-test, at-start .pre .1 .0)
+add-i c = let at = c .before .before .before .before .before .before .before .before .before .before in omega (arith, at .loop-test, at .before .before .before .before .pre .1 .0)
 
 loop-less : tie.Need-loop-less Inv-loop μ-loop
 loop-less c = search needs
