@@ -1,5 +1,6 @@
--- `put_line_bad`: four texts one after the other (`puts-then`).
-use Rattle.text.specs.PutsLaws.{puts-text, puts-decimal, puts-then}
+-- `put_line_bad`: four texts one after the other (`puts-then`), and nothing is cut (`puts-whole`).
+use Rattle.text.specs.PutsLaws.{puts-text, puts-decimal, puts-then, puts-whole}
+use native.Mathlib.Omega.{arith}
 use borrow.Author.Needs.{needs}
 use Rattle.forms.proofs.pages.put_line_bad.Statement.{statement}
 use Rattle.forms.proofs.pages.put_line_bad.Tie as tie
@@ -31,9 +32,10 @@ returns c =
     let at-put-decimal = at-put-text2 .before .before .before .before .before in
     let at-put-text = at-put-decimal .before .before .before .before in
     let at-start = at-put-text .before .before .before .before in
-    puts-then
+    puts-whole (omega arith)
+    (puts-then
     (puts-then (puts-then (puts-text (at-put-text .put-text .ensures)) (puts-decimal (at-start .fits .line) (at-put-decimal .put-decimal .ensures))) (puts-text (at-put-text2 .put-text2 .ensures)))
-    (c .before .before .put-expected .ensures)
+    (c .before .before .put-expected .ensures))
 
 pub put-line-bad-spec : {M : Type 1} → statement M
 put-line-bad-spec =

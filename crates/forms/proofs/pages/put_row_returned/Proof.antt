@@ -1,5 +1,5 @@
--- `put_row_returned`: three texts one after the other (`puts-then`).
-use Rattle.text.specs.PutsLaws.{puts-text, puts-small, puts-then, puts-wider}
+-- `put_row_returned`: three texts one after the other (`puts-then`), and nothing is cut (`puts-whole`).
+use Rattle.text.specs.PutsLaws.{puts-text, puts-small, puts-then, puts-whole}
 use native.Mathlib.Omega.{arith}
 use borrow.Author.Needs.{needs}
 use Rattle.forms.proofs.pages.put_row_returned.Statement.{statement}
@@ -28,7 +28,7 @@ returns c =
     let at-put-decimal = c .before .before .before .before .before .before .before in
     let at-put-text = at-put-decimal .before .before .before .before in
     let at-start = at-put-text .before .before .before .before in
-    puts-wider (omega arith)
+    puts-whole (omega arith)
     (puts-then (puts-then (puts-text (at-put-text .put-text .ensures)) (puts-small (at-start .fits .row) (at-put-decimal .put-decimal .ensures)))
     (puts-text (c .before .before .put-text2 .ensures)))
 
