@@ -2,19 +2,18 @@
 use Prim.Native.Nat.{ℕ}
 use mathlib.Core.List.{List, [], _∷_, _++_}
 use Rattle.text.specs.Bytes.{bytesOf}
-use Rattle.text.specs.Puts.{Puts}
+use Rattle.text.specs.Puts.{Stands}
 use Rattle.wording.specs.Texts.{refusalText}
 use Rattle.sheet.specs.declared.SheetAnswer.{SheetAnswer}
 use Rattle.sheet.specs.declared.SheetAnswer.the-variants.{Good, Refused}
 use Rattle.console.specs.Answers.{Verdict}
-use Rattle.forms.specs.Limits.{reportRoom}
 use Rattle.forms.specs.declared.sheets.Judgement.{Judgement}
 
 abbrev pub verdictWords : SheetAnswer → List ℕ
 verdictWords Good = bytesOf "accepted"
 verdictWords (Refused r) = refusalText r
 
--- the report on a text: its verdict, which is one alone (`one-verdict`), and the line that says it
+-- the report on a text: its verdict, which is one alone (`one-verdict`), and the line that says it, whole
 pub record Reported (text before list out : List ℕ) (r : Judgement) (later : List ℕ) : Type 0 where
   pub judged : Verdict text before (r .verdict) list
-  pub line : Puts reportRoom (verdictWords (r .verdict) ++ bytesOf "\n") out 0 (r .end) later
+  pub line : Stands (verdictWords (r .verdict) ++ bytesOf "\n") out 0 (r .end) later

@@ -32,7 +32,8 @@ pub fn put_usage(out: &mut [u8], at: usize) -> usize
 
 // That the arguments are no form, and which there are.
 pub fn put_no_form(out: &mut [u8]) -> usize
-    ensures { λ r. ⌜ Puts (19 + usageRoom) (bytesOf "keys: no such form\n" ++ usageText) (now (out .entry)) 0 r (now (out .exit)) ⌝ }
+    requires { ⌜ 19 + usageRoom ≤ length (now out) ⌝ }
+    ensures { λ r. ⌜ Stands (bytesOf "keys: no such form\n" ++ usageText) (now (out .entry)) 0 r (now (out .exit)) ⌝ }
 {
     let next = text::put_text(b"keys: no such form\n", out, 0);
     put_usage(out, next)
@@ -75,7 +76,8 @@ fn put_note(word: &[u8], number: u64, said: &[u8], out: &mut [u8]) -> usize
 
 // Which row of a sheet's text has a carriage return.
 pub fn put_row_returned(row: u32, out: &mut [u8]) -> usize
-    ensures { λ r. ⌜ Puts noteRoom (rowReturned row) (now (out .entry)) 0 r (now (out .exit)) ⌝ }
+    requires { ⌜ noteRoom ≤ length (now out) ⌝ }
+    ensures { λ r. ⌜ Stands (rowReturned row) (now (out .entry)) 0 r (now (out .exit)) ⌝ }
 {
     put_note(
         b"row ",
@@ -87,7 +89,8 @@ pub fn put_row_returned(row: u32, out: &mut [u8]) -> usize
 
 // Which line of a question has a carriage return.
 pub fn put_line_returned(line: u64, out: &mut [u8]) -> usize
-    ensures { λ r. ⌜ Puts noteRoom (lineReturned line) (now (out .entry)) 0 r (now (out .exit)) ⌝ }
+    requires { ⌜ noteRoom ≤ length (now out) ⌝ }
+    ensures { λ r. ⌜ Stands (lineReturned line) (now (out .entry)) 0 r (now (out .exit)) ⌝ }
 {
     put_note(
         b"line ",
@@ -110,7 +113,8 @@ fn put_expected(line: u64, out: &mut [u8], at: usize) -> usize
 
 // Which line of a question is not what was expected.
 pub fn put_line_bad(line: u64, out: &mut [u8]) -> usize
-    ensures { λ r. ⌜ Puts noteRoom (lineBad line) (now (out .entry)) 0 r (now (out .exit)) ⌝ }
+    requires { ⌜ noteRoom ≤ length (now out) ⌝ }
+    ensures { λ r. ⌜ Stands (lineBad line) (now (out .entry)) 0 r (now (out .exit)) ⌝ }
 {
     let next = put_note(
         b"line ",

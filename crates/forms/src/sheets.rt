@@ -5,6 +5,7 @@ ghost use lib.ListN.{length, take};
 ghost use Rattle.text.specs.Puts.{Puts};
 ghost use Rattle.wording.specs.Limits.{refusalRoom};
 ghost use Rattle.console.specs.Answers.{Verdict};
+ghost use Rattle.forms.specs.Limits.{reportRoom};
 ghost use Rattle.forms.specs.Sheets.{verdictWords, Reported};
 
 // A verdict whose line stands in a buffer up to a place.
@@ -36,7 +37,7 @@ fn put_word(verdict: SheetAnswer, out: &mut [u8]) -> usize
 
 // The line of the verdict on the text of a sheet, the first n bytes, with the verdict.
 pub fn report(n: usize, bytes: &[u8], list: &mut [u32], out: &mut [u8]) -> Judgement
-    requires { ⌜ n ≤ length (now bytes) ⌝ }
+    requires { ⌜ (n ≤ length (now bytes)) × (reportRoom ≤ length (now out)) ⌝ }
     ensures { λ r. ⌜ Reported (take n (now (bytes .entry))) (now (list .entry)) (now (list .exit)) (now (out .entry)) r (now (out .exit)) ⌝ }
 {
     let verdict = judge(n, bytes, list);

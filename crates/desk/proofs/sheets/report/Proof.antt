@@ -49,7 +49,8 @@ report-requires : tie.Need-report-requires
 report-requires c κs =
     let at-n = c .before .before .before .before in
     let at-read = at-n .before .before .before in
-    let h : at-n .n .given .0 .0 ≤ length (at-read .read .last .1 .0) = subst (λ (x : Text). Filled x (at-read .read .last .1 .0)) (at-n .n .given .1) (at-read .read .ensures) in h
+    let h : at-n .n .given .0 .0 ≤ length (at-read .read .last .1 .0) = subst (λ (x : Text). Filled x (at-read .read .last .1 .0)) (at-n .n .given .1) (at-read .read .ensures) in
+    (h, omega arith)
 
 -- src/sheets.rt:131:33
 array-share-prefix-bytes : tie.Need-array-share-prefix-bytes

@@ -1,5 +1,6 @@
--- `put_no_form`: the error and how to go on, one after the other (`puts-then`).
-use Rattle.text.specs.PutsLaws.{puts-text, puts-then}
+-- `put_no_form`: the error and how to go on, one after the other (`puts-then`), and nothing is cut (`puts-whole`).
+use Rattle.text.specs.PutsLaws.{puts-text, puts-then, puts-whole}
+use native.Mathlib.Omega.{arith}
 use borrow.Author.Needs.{needs}
 use Rattle.forms.proofs.pages.put_no_form.Statement.{statement}
 use Rattle.forms.proofs.pages.put_no_form.Tie as tie
@@ -17,7 +18,7 @@ same-length : tie.Need-same-length
 same-length c = search needs
 
 returns : tie.Need-returns
-returns c = puts-then (puts-text (c .before .before .before .before .before .before .put-text .ensures)) (c .before .before .put-usage .ensures)
+returns c = puts-whole (omega arith) (puts-then (puts-text (c .before .before .before .before .before .before .put-text .ensures)) (c .before .before .put-usage .ensures))
 
 pub put-no-form-spec : {M : Type 1} → statement M
 put-no-form-spec =

@@ -1,5 +1,6 @@
--- `report`: the verdict of the bytes, and its words with a line feed (`puts-then`).
-use Rattle.text.specs.PutsLaws.{puts-text, puts-then}
+-- `report`: the verdict of the bytes, and its words with a line feed (`puts-then`), and nothing is cut (`puts-whole`).
+use Rattle.text.specs.PutsLaws.{puts-text, puts-then, puts-whole}
+use native.Mathlib.Omega.{arith}
 use borrow.Author.Needs.{needs}
 use Rattle.forms.proofs.sheets.report.Statement.{statement}
 use Rattle.forms.proofs.sheets.report.Tie as tie
@@ -23,7 +24,7 @@ returns : tie.Need-returns
 returns c =
     let at-put-word = c .before .before .before .before .before .before in
     let at-judge = at-put-word .before .before .before .before in
-    record { judged = at-judge .judge .ensures; line = puts-then (at-put-word .put-word .ensures) (puts-text (c .before .before .put-byte .ensures)) }
+    record { judged = at-judge .judge .ensures; line = puts-whole (omega arith) (puts-then (at-put-word .put-word .ensures) (puts-text (c .before .before .put-byte .ensures))) }
 
 pub report-spec : {M : Type 1} → statement M
 report-spec =
