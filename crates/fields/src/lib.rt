@@ -115,8 +115,7 @@ pub fn read_one(line: &[u8], from: usize) -> Whole
     ensures { λ r. ⌜ r ≡ oneOf (fieldsFrom (now (line .entry)) from) ⌝ }
 {
     let mut list = [0i64; 1];
-    let n = read_numbers(line, from, &mut list);
-    if counted(n, 1) {
+    if read_exactly(line, from, &mut list) {
         Whole::Is(list[0])
     } else {
         Whole::Not
@@ -128,8 +127,7 @@ pub fn read_two(line: &[u8], from: usize) -> Two
     ensures { λ r. ⌜ r ≡ twoOf (fieldsFrom (now (line .entry)) from) ⌝ }
 {
     let mut list = [0i64; 2];
-    let n = read_numbers(line, from, &mut list);
-    if counted(n, 2) {
+    if read_exactly(line, from, &mut list) {
         Two::Are(list[0], list[1])
     } else {
         Two::Not
@@ -141,8 +139,7 @@ pub fn read_four(line: &[u8], from: usize) -> Four
     ensures { λ r. ⌜ r ≡ fourOf (fieldsFrom (now (line .entry)) from) ⌝ }
 {
     let mut list = [0i64; 4];
-    let n = read_numbers(line, from, &mut list);
-    if counted(n, 4) {
+    if read_exactly(line, from, &mut list) {
         Four::Are(list[0], list[1], list[2], list[3])
     } else {
         Four::Not

@@ -5,49 +5,45 @@ use Rattle.fields.specs.FieldsLaws.{exactly, not-exactly}
 use Rattle.signed.specs.Zed.{back}
 use mir.Val.{SFits}
 use mir.Syntax.{w64}
-use lib.ListN.{getD}
+use lib.ListN.{getD, replicate}
 use lib.IntN.{ℤ, pos}
 use mathlib.Core.Path.{refl}
-use mathlib.Core.List.{List, [], _∷_}
+use mathlib.Core.List.{List}
 use borrow.Author.Needs.{needs}
 use Rattle.fields.proofs.read_two.Statement.{statement}
 use Rattle.fields.proofs.read_two.Tie as tie
 
-slice-aggregate-read-numbers : tie.Need-slice-aggregate-read-numbers
-slice-aggregate-read-numbers c = search needs
+slice-aggregate-read-exactly : tie.Need-slice-aggregate-read-exactly
+slice-aggregate-read-exactly c = search needs
 
-read-numbers-requires : tie.Need-read-numbers-requires
-read-numbers-requires c κs = search needs
+read-exactly-requires : tie.Need-read-exactly-requires
+read-exactly-requires c κs = search needs
 
-counted-requires : tie.Need-counted-requires
-counted-requires c κs = search needs
+array-copy-out-t10 : tie.Need-array-copy-out-t10
+array-copy-out-t10 c = search needs
 
-array-copy-out-t11 : tie.Need-array-copy-out-t11
-array-copy-out-t11 c = search needs
-
-array-copy-out-t14 : tie.Need-array-copy-out-t14
-array-copy-out-t14 c = search needs
+array-copy-out-t13 : tie.Need-array-copy-out-t13
+array-copy-out-t13 c = search needs
 
 returns : tie.Need-returns
 returns c =
-    let at-read-numbers = c .before .before .before .before .before in
-    let f0 : SFits w64 (getD (at-read-numbers .read-numbers .last .1 .1 .0) 0 (pos 0)) = search needs in
-    let f1 : SFits w64 (getD (at-read-numbers .read-numbers .last .1 .1 .0) 1 (pos 0)) = search needs in
-    let at-counted = c .before .before .before in
-    let at-start = at-read-numbers .before .before .before in
+    let at = c .before .before .before .before in
+    let s = at .before .before .before in
+    let l = at .read-exactly .last .1 .1 .0 in
+    let f0 : SFits w64 (getD l 0 (pos 0)) = search needs in
+    let f1 : SFits w64 (getD l 1 (pos 0)) = search needs in
     rw (back f0, back f1)
-    (exactly (λ (l : List ℤ). Are (getD l 0 (pos 0)) (getD l 1 (pos 0))) Not (fieldsFrom (at-start .args .line .now) (at-start .args .from))
-    (pos 0 ∷ pos 0 ∷ []) (at-read-numbers .read-numbers .last .1 .1 .0) 2
-    (at-read-numbers .read-numbers .ensures .0) (at-counted .counted .ensures) (c .before .before .if1 .taken) refl (at-read-numbers .read-numbers .ensures .1))
+    (exactly (λ (l : List ℤ). Are (getD l 0 (pos 0)) (getD l 1 (pos 0))) Not (fieldsFrom (s .args .line .now) (s .args .from))
+    (replicate 2 (pos 0)) l 2 refl (at .read-exactly .ensures .0) (c .before .before .if1 .taken) refl (at .read-exactly .ensures .1))
 
 returns-2 : tie.Need-returns-2
 returns-2 c =
-    let at-read-numbers = c .before .before .before in
-    let at-start = at-read-numbers .before .before .before in
-    not-exactly
-    (Are (getD (valuesOf (fieldsFrom (at-start .args .line .now) (at-start .args .from))) 0 (pos 0)) (getD (valuesOf (fieldsFrom (at-start .args .line .now) (at-start .args .from))) 1 (pos 0))) Not
-    (fieldsFrom (at-start .args .line .now) (at-start .args .from)) 2 (at-read-numbers .read-numbers .ensures .0) (c .before .counted .ensures) (c .if1 .left)
+    let at = c .before .before in
+    let s = at .before .before .before in
+    let zs = valuesOf (fieldsFrom (s .args .line .now) (s .args .from)) in
+    not-exactly (Are (getD zs 0 (pos 0)) (getD zs 1 (pos 0))) Not (fieldsFrom (s .args .line .now) (s .args .from)) 2 refl
+    (at .read-exactly .ensures .0) (c .if1 .left)
 
 pub read-two-spec : {M : Type 1} → statement M
 read-two-spec =
-    tie.close (tie.spec slice-aggregate-read-numbers read-numbers-requires counted-requires array-copy-out-t11 array-copy-out-t14 returns returns-2)
+    tie.close (tie.spec slice-aggregate-read-exactly read-exactly-requires array-copy-out-t10 array-copy-out-t13 returns returns-2)
