@@ -153,10 +153,18 @@ fn tell_gas(
     let t = Millikelvin(number);
     match quantity {
         Quantity::Heat => {
-            wording::put_heat(gas::inner::heat_judged(Above::Zero, charge, t, sheet, air), out, at)
+            wording::put_heat(
+                gas::inner::heat_judged(Above::Zero, charge, t, sheet, air),
+                out,
+                at,
+            )
         }
         Quantity::Content => {
-            wording::put_heat(gas::inner::heat_judged(Above::Fifteen, charge, t, sheet, air), out, at)
+            wording::put_heat(
+                gas::inner::heat_judged(Above::Fifteen, charge, t, sheet, air),
+                out,
+                at,
+            )
         }
         Quantity::Specific => {
             wording::put_specific(gas::inner::specific_judged(charge, t, sheet, air), out, at)
