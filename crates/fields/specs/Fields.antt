@@ -14,8 +14,6 @@ use Rattle.fields.specs.declared.Numbers.{Numbers}
 use Rattle.fields.specs.declared.Numbers.the-variants.{Count, Bad}
 use Rattle.fields.specs.declared.Two.{Two}
 use Rattle.fields.specs.declared.Two.the-variants.{Are as AreTwo, Not as NotTwo}
-use Rattle.fields.specs.declared.Four.{Four}
-use Rattle.fields.specs.declared.Four.the-variants.{Are as AreFour, Not as NotFour}
 
 -- how many bytes stand before the first tab
 abbrev pub spanOf : List ℕ → ℕ
@@ -83,15 +81,9 @@ abbrev pub isCount : ℕ → Numbers → Bool
 isCount k (Count n) = eqb n k
 isCount k Bad = false
 
--- one number, two, four, and no more
+-- one number, two, and no more
 abbrev pub oneOf : List (List ℕ) → Whole
 oneOf fs = cond (isCount 1 (countAll 0 fs)) (Is (getD (valuesOf fs) 0 (pos 0))) Not
 
 abbrev pub twoOf : List (List ℕ) → Two
 twoOf fs = cond (isCount 2 (countAll 0 fs)) (AreTwo (getD (valuesOf fs) 0 (pos 0)) (getD (valuesOf fs) 1 (pos 0))) NotTwo
-
-abbrev pub fourOf : List (List ℕ) → Four
-fourOf fs =
-    cond (isCount 4 (countAll 0 fs))
-    (AreFour (getD (valuesOf fs) 0 (pos 0)) (getD (valuesOf fs) 1 (pos 0)) (getD (valuesOf fs) 2 (pos 0)) (getD (valuesOf fs) 3 (pos 0)))
-    NotFour

@@ -145,6 +145,14 @@ count-is (f ∷ fs) n k e = go (wholeOf f) refl e (λ q. count-is fs (n + 1) k q
     go (Is z) q e i = omega (arith, i e)
     go Not q e i = absurd (let z : _≡_ {A = ℕ} 0 1 = cc in omega arith)
 
+-- where there are exactly k numbers, there are as many values
+pub count-exactly : (fs : List (List ℕ)) (k : ℕ) → isCount k (countAll 0 fs) ≡ true → length (valuesOf fs) ≡ k
+count-exactly fs k t = go (countAll 0 fs) refl t
+  where
+    go : (n : Numbers) → countAll 0 fs ≡ n → isCount k n ≡ true → length (valuesOf fs) ≡ k
+    go (Count m) e t = omega (arith, count-is fs 0 m e, eqb-true m k t)
+    go Bad e t = absurd (true≢false (sym t))
+
 no-more : (vs l : List ℤ) → length l ≡ length vs → sets l 0 vs ≡ vs
 no-more vs l e =
     sets-eq vs l 0 (omega arith) ∙ (ap (λ x. vs ++ x) (none (drop (0 + length vs) l) (omega (arith, length-drop (0 + length vs) l))) ∙ append-nil vs)
@@ -153,13 +161,13 @@ no-more vs l e =
     none [] h = refl
     none (a ∷ x) h = absurd (omega arith)
 
-all-stored : (fs : List (List ℕ)) (before later : List ℤ) (k : ℕ) (n : Numbers)
+-- where there are exactly k, a list of k places holds them all, and nothing else
+pub all-stored : (fs : List (List ℕ)) (before later : List ℤ) (k : ℕ) (n : Numbers)
     → n ≡ countAll 0 fs → isCount k n ≡ true → length before ≡ k → Stored fs before n later → later ≡ valuesOf fs
 all-stored fs before later k (Count m) e t h s =
     s ∙ no-more (valuesOf fs) before (omega (arith, count-is fs 0 m (sym e), eqb-true m k t))
 all-stored fs before later k Bad e t h s = absurd (true≢false (sym t))
 
--- where there are exactly k, a list of k places holds them all
 pub exactly : {A : Type 0} (F : List ℤ → A) (other : A) (fs : List (List ℕ)) (before later : List ℤ) (k : ℕ) {n : Numbers} {r : Bool}
     → n ≡ countAll 0 fs → r ≡ isCount k n → r ≡ true → length before ≡ k → Stored fs before n later
     → F later ≡ cond (isCount k (countAll 0 fs)) (F (valuesOf fs)) other

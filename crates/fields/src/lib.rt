@@ -4,7 +4,7 @@ ghost use mathlib.Core.Path.{_≡_};
 ghost use Prim.Native.Nat.{_+_};
 ghost use lib.ListN.{length, set, drop};
 ghost use Rattle.fields.specs.Words.{positionOf};
-ghost use Rattle.fields.specs.Fields.{spanOf, fieldsOf, fieldsFrom, holdsReturn, countAll, Stored, heldOf, isCount, oneOf, twoOf, fourOf};
+ghost use Rattle.fields.specs.Fields.{spanOf, fieldsOf, fieldsFrom, holdsReturn, countAll, Stored, heldOf, isCount, oneOf, twoOf};
 use text::Whole;
 
 // How many numbers the fields are, or that one of them is none.
@@ -16,12 +16,6 @@ pub enum Numbers {
 // Two numbers and no more.
 pub enum Two {
     Are(i64, i64),
-    Not,
-}
-
-// Four numbers and no more.
-pub enum Four {
-    Are(i64, i64, i64, i64),
     Not,
 }
 
@@ -131,18 +125,6 @@ pub fn read_two(line: &[u8], from: usize) -> Two
         Two::Are(list[0], list[1])
     } else {
         Two::Not
-    }
-}
-
-// The four numbers that the fields from `from` on are.
-pub fn read_four(line: &[u8], from: usize) -> Four
-    ensures { λ r. ⌜ r ≡ fourOf (fieldsFrom (now (line .entry)) from) ⌝ }
-{
-    let mut list = [0i64; 4];
-    if read_exactly(line, from, &mut list) {
-        Four::Are(list[0], list[1], list[2], list[3])
-    } else {
-        Four::Not
     }
 }
 

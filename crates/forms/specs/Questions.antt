@@ -1,13 +1,11 @@
 -- A question (docs/PROGRAM.md), over its lines: the first is the start, A, c, h, mK; each further one a step, c, h, calorific value, q. How many lines there are, or the
 -- first that is none; their numbers; and the printed walk of them.
 use Prim.Native.Nat.{ℕ, suc}
-use mathlib.Core.Bool.{cond}
+use mathlib.Core.Bool.{Bool, cond}
 use mathlib.Core.List.{List, [], _∷_, _++_}
 use lib.IntN.{ℤ, pos}
 use lib.ListN.{drop, getD}
-use Rattle.fields.specs.Fields.{holdsReturn, fieldsOf, fourOf}
-use Rattle.fields.specs.declared.Four.{Four}
-use Rattle.fields.specs.declared.Four.the-variants.{Are, Not}
+use Rattle.fields.specs.Fields.{holdsReturn, fieldsOf, countAll, isCount, valuesOf}
 use Rattle.burning.specs.Burning.{chargeNumbers, chargeIn}
 use Rattle.sheet.specs.declared.SheetAnswer.{SheetAnswer}
 use Rattle.walk.specs.Limits.{stepNumbers}
@@ -15,24 +13,19 @@ use Rattle.console.specs.Walks.{walkTold, printedWalk}
 use Rattle.forms.specs.declared.questions.Question.{Question}
 use Rattle.forms.specs.declared.questions.Question.the-variants.{Good, Bad, Returned}
 
--- four numbers of a line
-abbrev pub fourNumbers : Four → List ℤ
-fourNumbers (Are a b c d) = a ∷ b ∷ c ∷ d ∷ []
-fourNumbers Not = []
+-- a line's fields are as many whole numbers as a step has: a start, with its temperature, has as many
+abbrev pub isLine : List (List ℕ) → Bool
+isLine fs = isCount stepNumbers (countAll 0 fs)
 
 -- the numbers of all lines
 abbrev pub numbersIn : List (List ℕ) → List ℤ
 numbersIn [] = []
-numbersIn (line ∷ lines) = fourNumbers (fourOf (fieldsOf line)) ++ numbersIn lines
+numbersIn (line ∷ lines) = valuesOf (fieldsOf line) ++ numbersIn lines
 
--- how many lines there are, or the first that is not four numbers or that has a carriage return: k lines stand before these
-abbrev pub onFour : Four → Question → Question → Question
-onFour (Are a b c d) good bad = good
-onFour Not good bad = bad
-
+-- how many lines there are, or the first that is not so many numbers or that has a carriage return: k lines stand before these
 abbrev pub readFrom : ℕ → List (List ℕ) → Question
 readFrom k [] = Good k
-readFrom k (line ∷ lines) = cond (holdsReturn line) (Returned (suc k)) (onFour (fourOf (fieldsOf line)) (readFrom (suc k) lines) (Bad (suc k)))
+readFrom k (line ∷ lines) = cond (holdsReturn line) (Returned (suc k)) (cond (isLine (fieldsOf line)) (readFrom (suc k) lines) (Bad (suc k)))
 
 -- the printed walk of a question's numbers: the first line is the start, the lines after it are the steps
 abbrev pub walkPage : SheetAnswer → List ℕ → List ℤ → List ℕ

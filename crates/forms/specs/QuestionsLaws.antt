@@ -1,4 +1,4 @@
--- A line that is kept number by number is kept; and the lines of a question taken one after the other are its question, whose page is that of its numbers. Assumes nothing.
+-- The lines of a question taken one after the other are its question, whose page is that of its numbers. Assumes nothing.
 use Prim.Native.Nat.{ℕ, suc, _+_, _*_, _-_, _<_, _≤_, min}
 use mathlib.Core.Bool.{Bool, true, false, cond}
 use mathlib.Core.List.{List, [], _∷_, _++_}
@@ -8,12 +8,13 @@ use native.Mathlib.Decide.{decLt}
 use borrow.Author.Tests.{lt-ltb, le-ltb, le-leb}
 use lib.Dec.{lit<}
 use lib.IntN.{ℤ, pos}
-use lib.ListN.{length, getD, set}
+use lib.ListN.{length, getD, length-append}
 use lib.Seq.{sets, length-sets}
-use Rattle.text.specs.PutLaws.{sets-past}
-use Rattle.fields.specs.Fields.{holdsReturn, fieldsOf, fieldsFrom, fourOf}
-use Rattle.fields.specs.declared.Four.{Four}
-use Rattle.fields.specs.declared.Four.the-variants.{Are, Not}
+use Rattle.text.specs.PutLaws.{sets-append, sets-past}
+use Rattle.fields.specs.Fields.{holdsReturn, fieldsOf, fieldsFrom, valuesOf}
+use Rattle.fields.specs.FieldsLaws.{count-exactly}
+use Rattle.burning.specs.Burning.{chargeNumbers}
+use Rattle.burning.specs.BurningLaws.{charge-alike}
 use Rattle.sheet.specs.declared.SheetAnswer.{SheetAnswer}
 use Rattle.walk.specs.Limits.{stepNumbers}
 use Rattle.console.specs.Walks.{printedWalk}
@@ -21,22 +22,8 @@ use Rattle.console.specs.WalksLaws.{kept-first, steps-alike}
 use Rattle.forms.specs.Limits.{keptLines, keptNumbers, mostCounted}
 use Rattle.forms.specs.declared.questions.Question.{Question}
 use Rattle.forms.specs.declared.questions.Question.the-variants.{Good, Bad, Returned}
-use Rattle.forms.specs.Questions.{fourNumbers, numbersIn, onFour, readFrom, walkPage}
-use Rattle.forms.specs.inner.Taking.{oneMore, keptLine, withFour, keptFour, questionPage, withLines, numbersAfter}
-
-pub line-kept : (k : ℕ) (a b c d : ℤ) (numbers : List ℤ) {n₁ n₂ n₃ n₄ : List ℤ} → k < keptLines
-    → n₁ ≡ set numbers (stepNumbers * k) a → n₂ ≡ set n₁ (stepNumbers * k + 1) b → n₃ ≡ set n₂ (stepNumbers * k + 2) c → n₄ ≡ set n₃ (stepNumbers * k + 3) d → n₄ ≡ keptLine k a b c d numbers
-line-kept k a b c d numbers h p q r s =
-    let one : stepNumbers * k + 1 ≡ suc (stepNumbers * k) = omega arith in
-    let two : stepNumbers * k + 2 ≡ suc (suc (stepNumbers * k)) = omega arith in
-    let three : stepNumbers * k + 3 ≡ suc (suc (suc (stepNumbers * k))) = omega arith in
-    rw (lt-ltb k keptLines h)
-    (s
-    ∙ (ap (λ (x : List ℤ). set x (stepNumbers * k + 3) d) (r ∙ ap (λ (x : List ℤ). set x (stepNumbers * k + 2) c) (q ∙ ap (λ (x : List ℤ). set x (stepNumbers * k + 1) b) p))
-    ∙ rw (one, two, three) refl))
-
-pub line-left : (k : ℕ) (a b c d : ℤ) (numbers : List ℤ) → keptLines ≤ k → numbers ≡ keptLine k a b c d numbers
-line-left k a b c d numbers h = rw (le-ltb k keptLines h) refl
+use Rattle.forms.specs.Questions.{isLine, numbersIn, readFrom, walkPage}
+use Rattle.forms.specs.inner.Taking.{oneMore, keptLine, questionPage, withLines, numbersAfter}
 
 stays-bad : (n : ℕ) (lines : List (List ℕ)) → withLines (Bad n) lines ≡ Bad n
 stays-bad n [] = refl
@@ -52,63 +39,68 @@ one-more k h = omega arith
 -- lines that no count overruns
 pub lines-read : (k : ℕ) (lines : List (List ℕ)) → k + length lines ≤ mostCounted → withLines (Good k) lines ≡ readFrom k lines
 lines-read k [] h = refl
-lines-read k (line ∷ lines) h = go (holdsReturn line) (fourOf (fieldsOf line)) (lines-read (suc k) lines (omega arith))
+lines-read k (line ∷ lines) h = go (holdsReturn line) (isLine (fieldsOf line)) (lines-read (suc k) lines (omega arith))
   where
-    go : (t : Bool) (f : Four) → withLines (Good (suc k)) lines ≡ readFrom (suc k) lines
-        → withLines (cond t (Returned (oneMore k)) (withFour k f)) lines ≡ cond t (Returned (suc k)) (onFour f (readFrom (suc k) lines) (Bad (suc k)))
-    go true f e = rw (one-more k (omega arith)) (stays-returned (suc k) lines)
-    go false (Are a b c d) e = rw (one-more k (omega arith)) e
-    go false Not e = rw (one-more k (omega arith)) (stays-bad (suc k) lines)
+    go : (t u : Bool) → withLines (Good (suc k)) lines ≡ readFrom (suc k) lines
+        → withLines (cond t (Returned (oneMore k)) (cond u (Good (oneMore k)) (Bad (oneMore k)))) lines ≡ cond t (Returned (suc k)) (cond u (readFrom (suc k) lines) (Bad (suc k)))
+    go true u e = rw (one-more k (omega arith)) (stays-returned (suc k) lines)
+    go false true e = rw (one-more k (omega arith)) e
+    go false false e = rw (one-more k (omega arith)) (stays-bad (suc k) lines)
 
 -- the list holds the numbers of the lines taken, as far as it reaches
 pub lines-kept : (k n : ℕ) (lines : List (List ℕ)) (numbers : List ℤ) → length numbers ≡ keptNumbers → k + length lines ≤ mostCounted → readFrom k lines ≡ Good n
     → numbersAfter (Good k) lines numbers ≡ sets numbers (stepNumbers * k) (numbersIn lines)
 lines-kept k n [] numbers l h e = refl
-lines-kept k n (line ∷ lines) numbers l h e = go (holdsReturn line) (fourOf (fieldsOf line)) (λ ms m r. lines-kept (suc k) n lines ms m (omega arith) r) e
+lines-kept k n (line ∷ lines) numbers l h e = go (holdsReturn line) (isLine (fieldsOf line)) refl (λ ms m r. lines-kept (suc k) n lines ms m (omega arith) r) e
   where
+    zs : List ℤ
+    zs = valuesOf (fieldsOf line)
+
     Later : Type 0
     Later = (ms : List ℤ) → length ms ≡ keptNumbers → readFrom (suc k) lines ≡ Good n → numbersAfter (Good (suc k)) lines ms ≡ sets ms (stepNumbers * suc k) (numbersIn lines)
 
-    four : stepNumbers * suc k ≡ suc (suc (suc (suc (stepNumbers * k))))
-    four = omega arith
-
-    kept : (a b c d : ℤ) → Later → Dec (k < keptLines) → readFrom (suc k) lines ≡ Good n
-        → numbersAfter (Good (suc k)) lines (keptLine k a b c d numbers) ≡ sets numbers (stepNumbers * k) (a ∷ b ∷ c ∷ d ∷ numbersIn lines)
-    kept a b c d later (yes g) r =
+    kept : isLine (fieldsOf line) ≡ true → Later → Dec (k < keptLines) → readFrom (suc k) lines ≡ Good n
+        → numbersAfter (Good (suc k)) lines (keptLine k zs numbers) ≡ sets numbers (stepNumbers * k) (zs ++ numbersIn lines)
+    kept t later (yes g) r =
+        let e : stepNumbers * suc k ≡ stepNumbers * k + length zs = omega (arith, count-exactly (fieldsOf line) stepNumbers t) in
         rw (lt-ltb k keptLines g)
-        (later (sets numbers (stepNumbers * k) (a ∷ b ∷ c ∷ d ∷ [])) (length-sets numbers (stepNumbers * k) (a ∷ b ∷ c ∷ d ∷ []) ∙ l) r ∙ rw four refl)
-    kept a b c d later (no g) r =
+        (later (sets numbers (stepNumbers * k) zs) (length-sets numbers (stepNumbers * k) zs ∙ l) r
+        ∙ (ap (λ (m : ℕ). sets (sets numbers (stepNumbers * k) zs) m (numbersIn lines)) e ∙ sym (sets-append zs (numbersIn lines) numbers (stepNumbers * k))))
+    kept t later (no g) r =
         rw (le-ltb k keptLines (omega arith))
         (later numbers l r
-        ∙ (sets-past (numbersIn lines) numbers (stepNumbers * suc k) (omega arith) ∙ sym (sets-past (a ∷ b ∷ c ∷ d ∷ numbersIn lines) numbers (stepNumbers * k) (omega arith))))
+        ∙ (sets-past (numbersIn lines) numbers (stepNumbers * suc k) (omega arith) ∙ sym (sets-past (zs ++ numbersIn lines) numbers (stepNumbers * k) (omega arith))))
 
-    go : (t : Bool) (f : Four) → Later → cond t (Returned (suc k)) (onFour f (readFrom (suc k) lines) (Bad (suc k))) ≡ Good n
-        → numbersAfter (cond t (Returned (oneMore k)) (withFour k f)) lines (cond t numbers (keptFour k f numbers)) ≡ sets numbers (stepNumbers * k) (fourNumbers f ++ numbersIn lines)
-    go true f later r = absurd (let z : _≡_ {A = ℕ} 0 1 = cc in omega arith)
-    go false (Are a b c d) later r = rw (one-more k (omega arith)) (kept a b c d later (decLt k keptLines) r)
-    go false Not later r = absurd (let z : _≡_ {A = ℕ} 0 1 = cc in omega arith)
+    go : (t u : Bool) → isLine (fieldsOf line) ≡ u → Later → cond t (Returned (suc k)) (cond u (readFrom (suc k) lines) (Bad (suc k))) ≡ Good n
+        → numbersAfter (cond t (Returned (oneMore k)) (cond u (Good (oneMore k)) (Bad (oneMore k)))) lines (cond t numbers (cond u (keptLine k zs numbers) numbers))
+        ≡ sets numbers (stepNumbers * k) (zs ++ numbersIn lines)
+    go true u q later r = absurd (let z : _≡_ {A = ℕ} 0 1 = cc in omega arith)
+    go false true q later r = rw (one-more k (omega arith)) (kept q later (decLt k keptLines) r)
+    go false false q later r = absurd (let z : _≡_ {A = ℕ} 0 1 = cc in omega arith)
 
--- a question has four numbers a line
+-- a question has as many numbers a line as a step has
 lines-long : (k n : ℕ) (lines : List (List ℕ)) → readFrom k lines ≡ Good n → (n ≡ k + length lines) × (length (numbersIn lines) ≡ stepNumbers * length lines)
 lines-long k n [] e = ((let z : k ≡ n = cc in omega arith), refl)
-lines-long k n (line ∷ lines) e = go (holdsReturn line) (fourOf (fieldsOf line)) (λ r. lines-long (suc k) n lines r) e
+lines-long k n (line ∷ lines) e = go (holdsReturn line) (isLine (fieldsOf line)) refl (λ r. lines-long (suc k) n lines r) e
   where
-    go : (t : Bool) (f : Four) → (readFrom (suc k) lines ≡ Good n → (n ≡ suc k + length lines) × (length (numbersIn lines) ≡ stepNumbers * length lines))
-        → cond t (Returned (suc k)) (onFour f (readFrom (suc k) lines) (Bad (suc k))) ≡ Good n
-        → (n ≡ k + suc (length lines)) × (length (fourNumbers f ++ numbersIn lines) ≡ stepNumbers * suc (length lines))
-    go true f later r = absurd (let z : _≡_ {A = ℕ} 0 1 = cc in omega arith)
-    go false (Are a b c d) later r = let p = later r in (omega (arith, p .0), omega (arith, p .1))
-    go false Not later r = absurd (let z : _≡_ {A = ℕ} 0 1 = cc in omega arith)
+    go : (t u : Bool) → isLine (fieldsOf line) ≡ u → (readFrom (suc k) lines ≡ Good n → (n ≡ suc k + length lines) × (length (numbersIn lines) ≡ stepNumbers * length lines))
+        → cond t (Returned (suc k)) (cond u (readFrom (suc k) lines) (Bad (suc k))) ≡ Good n
+        → (n ≡ k + suc (length lines)) × (length (valuesOf (fieldsOf line) ++ numbersIn lines) ≡ stepNumbers * suc (length lines))
+    go true u q later r = absurd (let z : _≡_ {A = ℕ} 0 1 = cc in omega arith)
+    go false true q later r =
+        let p = later r in
+        (omega (arith, p .0), omega (arith, p .1, length-append (valuesOf (fieldsOf line)) (numbersIn lines), count-exactly (fieldsOf line) stepNumbers q))
+    go false false q later r = absurd (let z : _≡_ {A = ℕ} 0 1 = cc in omega arith)
 
 -- the page put from the list is the page of the lines' numbers
 pub question-printed : (verdict : SheetAnswer) (s : List ℕ) (n : ℕ) (lines : List (List ℕ)) (before : List ℤ) → length before ≡ keptNumbers → 1 ≤ n → readFrom 0 lines ≡ Good n
     → questionPage verdict s n (sets before 0 (numbersIn lines)) ≡ walkPage verdict s (numbersIn lines)
 question-printed verdict s n lines before l h e =
     let p = lines-long 0 n lines e in
-    let g : (i : ℕ) → i < 4 → getD (sets before 0 (numbersIn lines)) i (pos 0) ≡ getD (numbersIn lines) i (pos 0) =
+    let g : (i : ℕ) → i < stepNumbers → getD (sets before 0 (numbersIn lines)) i (pos 0) ≡ getD (numbersIn lines) i (pos 0) =
     λ i m. kept-first (pos 0) (numbersIn lines) before i (omega (arith, p .0, p .1)) (omega arith) in
     let m : stepNumbers * min n keptLines - stepNumbers ≡ min (stepNumbers * n) keptNumbers - stepNumbers = omega arith in
-    rw (g 0 (lit< tt), g 1 (lit< tt), g 2 (lit< tt), g 3 (lit< tt), m)
+    rw (charge-alike (sets before 0 (numbersIn lines)) (numbersIn lines) (λ i r. g i (omega arith)), g chargeNumbers (lit< tt), m)
     (ap printedWalk (steps-alike verdict s (numbersIn lines) before (sets before 0 (numbersIn lines)) keptNumbers l (lit< tt) _ _ (stepNumbers * n) (omega (arith, p .0, p .1)) (omega arith) refl))
 
 -- a line whole is its fields from the start

@@ -1,12 +1,12 @@
-// A question (docs/PROGRAM.md): line by line four numbers, first A, c, h, mK, then c, h, calorific value, q for each step; and the printed walk of it.
+// A question (docs/PROGRAM.md): line by line as many numbers as a step has, first A, c, h, mK, then c, h, calorific value, q for each step; and the printed walk of it.
 use air::Millikelvin;
-use fields::Four;
 use sheet::SheetAnswer;
 ghost use Prim.Native.Nat.{_+_, _≤_, min};
 ghost use mathlib.Core.Path.{_≡_};
 ghost use lib.ListN.{length};
 ghost use Rattle.rows.specs.Rows.{rowsH};
 ghost use Rattle.text.specs.Puts.{Stands};
+ghost use Rattle.walk.specs.Limits.{stepNumbers};
 ghost use Rattle.console.specs.Limits.{pageRoom};
 ghost use Rattle.console.specs.Answers.{Judged};
 ghost use Rattle.forms.specs.Limits.{keptNumbers, keptLines};
@@ -18,7 +18,7 @@ const KEPT_LINES: u64 = walk::MOST_STEPS as u64 + 2;
 // How many numbers are kept of a question.
 pub const KEPT_NUMBERS: usize = walk::STEP_NUMBERS * (walk::MOST_STEPS + 2);
 
-// A question so far: how many lines were good, or the number of the first that was not four numbers or that had a carriage return.
+// A question so far: how many lines were good, or the number of the first that was not as many numbers or that had a carriage return.
 pub enum Question {
     Good(u64),
     Bad(u64),
@@ -32,16 +32,18 @@ fn one_more(n: u64) -> u64
     if n < u64::MAX { n + 1 } else { n }
 }
 
-// Keeps the four numbers of line k, where the list has places for them.
-fn keep_line(numbers: &mut [i64], k: u64, a: i64, b: i64, c: i64, d: i64)
-    ensures { λ _. ⌜ now (numbers .exit) ≡ keptLine k a b c d (now (numbers .entry)) ⌝ }
+// Keeps the numbers of line k, where the list has places for them.
+fn keep_line(numbers: &mut [i64], k: u64, line: &[i64; walk::STEP_NUMBERS])
+    requires { ⌜ length (now line) ≡ stepNumbers ⌝ }
+    ensures { λ _. ⌜ now (numbers .exit) ≡ keptLine k (now (line .entry)) (now (numbers .entry)) ⌝ }
 {
     if k < KEPT_LINES {
         let at = walk::STEP_NUMBERS * (k as usize);
-        fields::keep(numbers, at, a);
-        fields::keep(numbers, at + 1, b);
-        fields::keep(numbers, at + 2, c);
-        fields::keep(numbers, at + 3, d);
+        let mut i = 0;
+        while i < walk::STEP_NUMBERS {
+            fields::keep(numbers, at + i, line[i]);
+            i += 1;
+        }
     }
 }
 
@@ -53,12 +55,12 @@ fn take_next(k: u64, line: &[u8], numbers: &mut [i64]) -> Question
     if fields::holds_return(line) {
         return Question::Returned(one_more(k));
     }
-    match fields::read_four(line, 0) {
-        Four::Are(a, b, c, d) => {
-            keep_line(numbers, k, a, b, c, d);
-            Question::Good(one_more(k))
-        }
-        Four::Not => Question::Bad(one_more(k)),
+    let mut read = [0i64; walk::STEP_NUMBERS];
+    if fields::read_exactly(line, 0, &mut read) {
+        keep_line(numbers, k, &read);
+        Question::Good(one_more(k))
+    } else {
+        Question::Bad(one_more(k))
     }
 }
 

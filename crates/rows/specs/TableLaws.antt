@@ -118,10 +118,6 @@ pub psi-first : airPsi firstKelvin ≡ 95264
 unfolding airPsi column rowsPsi
 psi-first = refl
 
-pub psi-last : airPsi lastKelvin ≡ 133151
-unfolding airPsi column rowsPsi
-psi-last = refl
-
 pub H-most : (k : ℕ) → airH k ≤ 53789
 unfolding airH
 H-most k = omega (arith, H-last, column-most rowsH H-length H-growing k)

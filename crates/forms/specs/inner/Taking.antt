@@ -7,33 +7,27 @@ use lib.Dec.{ltb}
 use lib.IntN.{ℤ, pos}
 use lib.ListN.{take, drop, getD}
 use lib.Seq.{sets}
-use Rattle.fields.specs.Fields.{holdsReturn, fieldsOf, fourOf}
-use Rattle.fields.specs.declared.Four.{Four}
-use Rattle.fields.specs.declared.Four.the-variants.{Are, Not}
+use Rattle.fields.specs.Fields.{holdsReturn, fieldsOf, valuesOf}
 use Rattle.burning.specs.Burning.{chargeNumbers, chargeIn}
 use Rattle.sheet.specs.declared.SheetAnswer.{SheetAnswer}
 use Rattle.walk.specs.Limits.{stepNumbers}
 use Rattle.console.specs.Walks.{walkTold, printedWalk}
 use Rattle.forms.specs.Limits.{keptLines, mostCounted}
+use Rattle.forms.specs.Questions.{isLine}
 use Rattle.forms.specs.declared.questions.Question.{Question}
 use Rattle.forms.specs.declared.questions.Question.the-variants.{Good, Bad, Returned}
 
--- line k, counted from 0, stands in four places of its own; a line past those that are kept is left out
-abbrev pub keptLine : ℕ → ℤ → ℤ → ℤ → ℤ → List ℤ → List ℤ
-keptLine k a b c d numbers = cond (ltb k keptLines) (sets numbers (stepNumbers * k) (a ∷ b ∷ c ∷ d ∷ [])) numbers
+-- line k, counted from 0, stands in places of its own, as many as a step has numbers; a line past those that are kept is left out
+abbrev pub keptLine : ℕ → List ℤ → List ℤ → List ℤ
+keptLine k line numbers = cond (ltb k keptLines) (sets numbers (stepNumbers * k) line) numbers
 
 -- one line more, as far as a count goes
 abbrev pub oneMore : ℕ → ℕ
 oneMore k = min (suc k) mostCounted
 
--- line k is four numbers, or not
-abbrev pub withFour : ℕ → Four → Question
-withFour k (Are a b c d) = Good (oneMore k)
-withFour k Not = Bad (oneMore k)
-
--- the question with one line more: after the first line that is not four numbers, or that has a carriage return, no line counts
+-- the question with one line more: after the first line that is not so many numbers, or that has a carriage return, no line counts
 abbrev pub withNext : ℕ → List ℕ → Question
-withNext k line = cond (holdsReturn line) (Returned (oneMore k)) (withFour k (fourOf (fieldsOf line)))
+withNext k line = cond (holdsReturn line) (Returned (oneMore k)) (cond (isLine (fieldsOf line)) (Good (oneMore k)) (Bad (oneMore k)))
 
 abbrev pub withLine : Question → List ℕ → Question
 withLine (Good k) line = withNext k line
@@ -41,12 +35,8 @@ withLine (Bad n) line = Bad n
 withLine (Returned n) line = Returned n
 
 -- and the numbers that are kept of it
-abbrev pub keptFour : ℕ → Four → List ℤ → List ℤ
-keptFour k (Are a b c d) numbers = keptLine k a b c d numbers
-keptFour k Not numbers = numbers
-
 abbrev pub numbersNext : ℕ → List ℕ → List ℤ → List ℤ
-numbersNext k line numbers = cond (holdsReturn line) numbers (keptFour k (fourOf (fieldsOf line)) numbers)
+numbersNext k line numbers = cond (holdsReturn line) numbers (cond (isLine (fieldsOf line)) (keptLine k (valuesOf (fieldsOf line)) numbers) numbers)
 
 abbrev pub numbersWith : Question → List ℕ → List ℤ → List ℤ
 numbersWith (Good k) line numbers = numbersNext k line numbers

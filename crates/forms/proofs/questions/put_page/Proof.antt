@@ -9,6 +9,7 @@ use mir.Syntax.{w64}
 use lib.IntN.{pos}
 use lib.ListN.{getD}
 use borrow.Author.Needs.{needs}
+use Rattle.burning.specs.Burning.{chargeNumbers}
 use Rattle.walk.specs.Limits.{stepNumbers}
 use Rattle.forms.specs.Limits.{keptLines}
 use Rattle.forms.proofs.questions.put_page.Statement.{statement}
@@ -44,8 +45,8 @@ same-length c = search needs
 returns : tie.Need-returns
 returns c =
     let s = c .before .before .before .before .before .before .before .before .before .before in
-    let f : SFits w64 (getD (s .args .numbers .now) 3 (pos 0)) = search needs in
-    let e : stepNumbers * c .before .before .before .before .before .kept .result - stepNumbers ≡ stepNumbers * min (s .args .lines) keptLines - 4 =
+    let f : SFits w64 (getD (s .args .numbers .now) chargeNumbers (pos 0)) = search needs in
+    let e : stepNumbers * c .before .before .before .before .before .kept .result - stepNumbers ≡ stepNumbers * min (s .args .lines) keptLines - stepNumbers =
     omega (arith, c .before .before .before .before .before .kept .ensures .1) in
     puts-whole (s .pre .3) (rw (c .before .before .before .before .before .before .before .charge-in .ensures, back f, e) at (c .before .before .print-judged .ensures))
 

@@ -3,39 +3,28 @@ use mathlib.Core.Path.{refl}
 use borrow.Author.Needs.{needs}
 use Rattle.forms.proofs.questions.take.Statement.{statement}
 use Rattle.forms.proofs.questions.take.Tie as tie
-use Rattle.forms.proofs.questions.take.Reads as reads
-use Rattle.forms.proofs.questions.take.Lts as lts
-use Rattle.forms.proofs.questions.take_next.Reads as take-next-reads
 
--- src/questions.rt:79:24
 enum-known-question : tie.Need-enum-known-question
 enum-known-question c = search needs
 
--- src/questions.rt:79:30
 take-next-requires : tie.Need-take-next-requires
 take-next-requires c κs = search needs
 
--- src/questions.rt:80:23
 enum-known-question-2 : tie.Need-enum-known-question-2
 enum-known-question-2 c = search needs
 
--- src/questions.rt:81:28
 enum-known-question-3 : tie.Need-enum-known-question-3
 enum-known-question-3 c = search needs
 
--- src/questions.rt:74:1
 same-length : tie.Need-same-length
 same-length c = search needs
 
--- src/questions.rt:74:1
 returns : tie.Need-returns
 returns c = rw (c .before .before .before .before .question .given .1) (c .before .take-next .ensures)
 
--- src/questions.rt:74:1
 returns-2 : tie.Need-returns-2
 returns-2 c = (rw (c .before .question2 .given .1) refl, rw (c .before .question2 .given .1) refl)
 
--- src/questions.rt:74:1
 returns-3 : tie.Need-returns-3
 returns-3 c = (rw (c .before .question3 .given .1) refl, rw (c .before .question3 .given .1) refl)
 
