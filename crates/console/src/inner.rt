@@ -6,12 +6,20 @@ use crate::walks::Layout;
 use air::Millikelvin;
 use burning::Charge;
 use sheet::SheetAnswer;
+use walk::WalkAnswer;
 ghost use mathlib.Core.Path.{_≡_};
 ghost use Rattle.rows.specs.Rows.{rowsH};
 ghost use Rattle.text.specs.Puts.{Puts};
+ghost use Rattle.walk.specs.Walk.{course, paperWalk};
 ghost use Rattle.console.specs.Limits.{replyRoom, answerRoom, pageRoom};
 ghost use Rattle.console.specs.Answers.{Columns, Judged, lineText, answerOf};
 ghost use Rattle.console.specs.Walks.{walkTold, printedWalk};
+
+// A walk that was put into a buffer: the place after it, and what the walk came to.
+pub struct Printed {
+    pub end: usize,
+    pub answer: WalkAnswer,
+}
 
 // The answer to a request line, its line feed with it, over a sheet that was judged when it was read.
 pub fn answer_judged(
@@ -74,9 +82,10 @@ pub fn print_judged(
     air: &[u32; rows::ROWS],
     out: &mut [u8],
     at: usize,
-) -> usize
+) -> Printed
     requires { ⌜ Judged verdict (now sheet) × (now air ≡ rowsH) ⌝ }
-    ensures { λ r. ⌜ Puts pageRoom (printedWalk (walkTold verdict (now (sheet .entry)) charge (t .0) (now (steps .entry)))) (now (out .entry)) at r (now (out .exit)) ⌝ }
+    ensures { λ r. ⌜ Puts pageRoom (printedWalk (walkTold verdict (now (sheet .entry)) charge (t .0) (now (steps .entry)))) (now (out .entry)) at (r .end) (now (out .exit)) ⌝ }
+    ensures { λ r. ⌜ paperWalk (r .answer) ≡ course (walkTold verdict (now (sheet .entry)) charge (t .0) (now (steps .entry))) ⌝ }
 {
     walks::show(Layout::Page, charge, t, steps, verdict, sheet, air, out, at)
 }

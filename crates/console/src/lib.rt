@@ -44,5 +44,6 @@ pub fn print_walk(
 {
     let air = rows::columns::heat_column();
     let verdict = sheet::inner::judge(sheet, &air);
-    inner::print_judged(charge, t, steps, verdict, sheet, &air, out, at)
+    let printed = inner::print_judged(charge, t, steps, verdict, sheet, &air, out, at);
+    printed.end
 }

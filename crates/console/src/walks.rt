@@ -1,4 +1,5 @@
 // Walks as the console shows them: in a line, as the answer to a request, or on a page, as document 01 prints one (specs/Walks.antt). One loop puts the steps of both.
+use crate::inner::Printed;
 use crate::replies;
 use air::Millikelvin;
 use burning::Charge;
@@ -13,7 +14,7 @@ ghost use Rattle.air.specs.Limits.{lookPlaces};
 ghost use Rattle.walk.specs.Limits.{mostSteps, mostLooks};
 ghost use Rattle.fields.specs.Fields.{fieldsFrom};
 ghost use Rattle.walk.specs.Lists.{lists};
-ghost use Rattle.walk.specs.Walk.{paperWalk, Walks};
+ghost use Rattle.walk.specs.Walk.{course, paperWalk, Walks};
 ghost use Rattle.wording.specs.Texts.{used};
 ghost use Rattle.console.specs.Limits.{inLineRoom, onPageRoom, endRoom, replyRoom, pageRoom};
 ghost use Rattle.console.specs.Walks.{walkTold, inLine, onPage, stepText, refusedLine, endText, walkRequest};
@@ -225,9 +226,10 @@ pub(crate) fn show(
     air: &[u32; rows::ROWS],
     out: &mut [u8],
     at: usize,
-) -> usize
+) -> Printed
     requires { ⌜ Judged verdict (now sheet) × (now air ≡ rowsH) ⌝ }
-    ensures { λ r. ⌜ Puts (walkRoom layout) (layoutText layout (walkTold verdict (now (sheet .entry)) charge (t .0) (now (steps .entry)))) (now (out .entry)) at r (now (out .exit)) ⌝ }
+    ensures { λ r. ⌜ Puts (walkRoom layout) (layoutText layout (walkTold verdict (now (sheet .entry)) charge (t .0) (now (steps .entry)))) (now (out .entry)) at (r .end) (now (out .exit)) ⌝ }
+    ensures { λ r. ⌜ paperWalk (r .answer) ≡ course (walkTold verdict (now (sheet .entry)) charge (t .0) (now (steps .entry))) ⌝ }
 {
     let mut temperatures = [0i64; walk::MOST_STEPS];
     let mut rests = [0i64; walk::MOST_STEPS];
@@ -243,7 +245,8 @@ pub(crate) fn show(
         sheet,
         air,
     );
-    put_walk(layout, answer, &temperatures, &rests, &looks, out, at)
+    let end = put_walk(layout, answer, &temperatures, &rests, &looks, out, at);
+    Printed { end, answer }
 }
 
 // walk A c h mK n1 n2 .. The list has a place more than a start and the steps of the longest walk: where it is full, there are too many.
@@ -266,7 +269,7 @@ pub(crate) fn reply_walk(
     }
     let start = burning::inner::charge_in(&list);
     let t = Millikelvin(list[burning::inner::CHARGE_NUMBERS]);
-    show(
+    let shown = show(
         Layout::Line,
         start,
         t,
@@ -276,5 +279,6 @@ pub(crate) fn reply_walk(
         air,
         out,
         at,
-    )
+    );
+    shown.end
 }

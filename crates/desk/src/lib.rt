@@ -5,7 +5,6 @@ mod asking;
 mod lines;
 mod pages;
 mod questions;
-mod refusals;
 mod sheets;
 
 use forms::arguments::Form;

@@ -2,7 +2,6 @@
 // Nothing is printed before the whole question is read, and nothing but a line on standard error where a line is not four numbers.
 use crate::arguments;
 use crate::lines;
-use crate::refusals;
 use forms::arguments::Named;
 use forms::pages;
 use forms::questions;
@@ -12,6 +11,7 @@ use sheet::SheetAnswer;
 use stream::Held;
 use stream::Line;
 use stream::Output;
+use walk::WalkAnswer;
 ghost use Prim.Native.Nat.{_≤_};
 ghost use mathlib.Core.Path.{_≡_};
 ghost use lib.ListN.{length};
@@ -140,10 +140,17 @@ fn print_walk(
     requires { ⌜ Judged verdict (now sheet) × (length (now numbers) ≡ keptNumbers) × (1 ≤ lines) × (now air ≡ rowsH) ⌝ }
 {
     let mut out = page();
-    let next = questions::put_page(lines, numbers, verdict, sheet, air, &mut out, 0);
-    stream::flush(&out, Output::At(next));
-    let end = walk::STEP_NUMBERS * questions::kept(lines);
-    refusals::say(numbers, end, verdict, sheet, air);
+    let printed = questions::put_page(lines, numbers, verdict, sheet, air, &mut out, 0);
+    stream::flush(&out, Output::At(printed.end));
+    let answer = printed.answer;
+    say_refusal(verdict, answer);
+}
+
+// Says on standard error whose refusal the page ends in, where it ends in one.
+fn say_refusal(verdict: SheetAnswer, answer: WalkAnswer) {
+    let mut out = [0u8; 160];
+    let end = pages::put_refusal_note(verdict, answer, &mut out);
+    stream::say(&out, end);
 }
 
 // Says on standard error which line is not what was expected.

@@ -1,12 +1,17 @@
 -- What `keys` prints whole (docs/PROGRAM.md): the built-in example with how to go on; and its lines on standard error.
-use Prim.Native.Nat.{ℕ}
+use Prim.Native.Nat.{ℕ, _+_}
 use mathlib.Core.Bool.{cond}
 use mathlib.Core.List.{List, [], _∷_, _++_}
 use lib.Dec.{eqb}
 use lib.IntN.{pos}
 use Rattle.text.specs.Bytes.{bytesOf}
 use Rattle.text.specs.Decimal.{decimal}
+use Rattle.refusal.specs.Refusals.{Told, gives, refused, numberOf}
+use Rattle.refusal.specs.declared.Refusal.{Refusal}
+use Rattle.refusal.specs.declared.Refusal.the-variants.{Plain, At}
 use Rattle.sheet.specs.declared.SheetAnswer.{SheetAnswer}
+use Rattle.sheet.specs.declared.SheetAnswer.the-variants.{Good, Refused}
+use Rattle.walk.specs.Walk.{Course, done, stopped}
 use Rattle.burning.specs.Burning.{chargeIn}
 use Rattle.console.specs.Walks.{walkTold, printedWalk}
 
@@ -35,3 +40,19 @@ expected line = cond (eqb line 1) (bytesOf "A, c, h, mK\n") (bytesOf "c, h, calo
 
 abbrev pub lineBad : ℕ → List ℕ
 lineBad line = ((bytesOf "line " ++ decimal line) ++ bytesOf ": expected four whole numbers parted by tabs: ") ++ expected line
+
+-- ---- whose refusal a printed walk ends in
+abbrev pub sheetNote : Refusal → List ℕ
+sheetNote (Plain number) = (bytesOf "the sheet is refused with " ++ decimal number) ++ bytesOf "\n"
+sheetNote (At number row) = ((bytesOf "the sheet is refused with " ++ decimal number) ++ bytesOf " at row ") ++ (decimal row ++ bytesOf "\n")
+
+-- the step after those that were done, or the start; nothing where the walk was refused nowhere
+abbrev pub walkNote : Told Course → List ℕ
+walkNote (gives (done n ch mk)) = []
+walkNote (gives (stopped n number ch mk)) = ((bytesOf "step " ++ decimal (n + 1)) ++ bytesOf " is refused with ") ++ (decimal number ++ bytesOf "\n")
+walkNote (refused r) = (bytesOf "the start is refused with " ++ decimal (numberOf r)) ++ bytesOf "\n"
+
+-- over a sheet that was refused no walk begins
+abbrev pub refusalNote : SheetAnswer → Told Course → List ℕ
+refusalNote Good told = walkNote told
+refusalNote (Refused r) told = sheetNote r

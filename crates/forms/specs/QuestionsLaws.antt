@@ -1,4 +1,4 @@
--- The lines of a question taken one after the other are its question, whose page is that of its numbers. Assumes nothing.
+-- The lines of a question taken one after the other are its question, whose walk is that of its numbers. Assumes nothing.
 use Prim.Native.Nat.{ℕ, suc, _+_, _*_, _-_, _<_, _≤_, min}
 use mathlib.Core.Bool.{Bool, true, false, cond}
 use mathlib.Core.List.{List, [], _∷_, _++_}
@@ -17,13 +17,16 @@ use Rattle.burning.specs.Burning.{chargeNumbers}
 use Rattle.burning.specs.BurningLaws.{charge-alike}
 use Rattle.sheet.specs.declared.SheetAnswer.{SheetAnswer}
 use Rattle.walk.specs.Limits.{stepNumbers}
+use Rattle.walk.specs.declared.WalkAnswer.{WalkAnswer}
+use Rattle.walk.specs.Walk.{course, paperWalk}
 use Rattle.console.specs.Walks.{printedWalk}
 use Rattle.console.specs.WalksLaws.{kept-first, steps-alike}
 use Rattle.forms.specs.Limits.{keptLines, keptNumbers, mostCounted}
 use Rattle.forms.specs.declared.questions.Question.{Question}
 use Rattle.forms.specs.declared.questions.Question.the-variants.{Good, Bad, Returned}
-use Rattle.forms.specs.Questions.{isLine, numbersIn, readFrom, walkPage}
-use Rattle.forms.specs.inner.Taking.{oneMore, keptLine, questionPage, withLines, numbersAfter}
+use Rattle.forms.specs.Pages.{refusalNote}
+use Rattle.forms.specs.Questions.{isLine, numbersIn, readFrom, walkIn, walkPage, pageNote}
+use Rattle.forms.specs.inner.Taking.{oneMore, keptLine, questionTold, withLines, numbersAfter}
 
 stays-bad : (n : ℕ) (lines : List (List ℕ)) → withLines (Bad n) lines ≡ Bad n
 stays-bad n [] = refl
@@ -92,16 +95,22 @@ lines-long k n (line ∷ lines) e = go (holdsReturn line) (isLine (fieldsOf line
         (omega (arith, p .0), omega (arith, p .1, length-append (valuesOf (fieldsOf line)) (numbersIn lines), count-exactly (fieldsOf line) stepNumbers q))
     go false false q later r = absurd (let z : _≡_ {A = ℕ} 0 1 = cc in omega arith)
 
--- the page put from the list is the page of the lines' numbers
-pub question-printed : (verdict : SheetAnswer) (s : List ℕ) (n : ℕ) (lines : List (List ℕ)) (before : List ℤ) → length before ≡ keptNumbers → 1 ≤ n → readFrom 0 lines ≡ Good n
-    → questionPage verdict s n (sets before 0 (numbersIn lines)) ≡ walkPage verdict s (numbersIn lines)
-question-printed verdict s n lines before l h e =
-    let p = lines-long 0 n lines e in
-    let g : (i : ℕ) → i < stepNumbers → getD (sets before 0 (numbersIn lines)) i (pos 0) ≡ getD (numbersIn lines) i (pos 0) =
-    λ i m. kept-first (pos 0) (numbersIn lines) before i (omega (arith, p .0, p .1)) (omega arith) in
-    let m : stepNumbers * min n keptLines - stepNumbers ≡ min (stepNumbers * n) keptNumbers - stepNumbers = omega arith in
-    rw (charge-alike (sets before 0 (numbersIn lines)) (numbersIn lines) (λ i r. g i (omega arith)), g chargeNumbers (lit< tt), m)
-    (ap printedWalk (steps-alike verdict s (numbersIn lines) before (sets before 0 (numbersIn lines)) keptNumbers l (lit< tt) _ _ (stepNumbers * n) (omega (arith, p .0, p .1)) (omega arith) refl))
+-- the walk from the list is the walk of the lines' numbers; so is its page, and what is said beside the page
+module _ (verdict : SheetAnswer) (s : List ℕ) (n : ℕ) (lines : List (List ℕ)) (before : List ℤ) (l : length before ≡ keptNumbers) (h : 1 ≤ n) (e : readFrom 0 lines ≡ Good n) where
+  question-told : questionTold verdict s n (sets before 0 (numbersIn lines)) ≡ walkIn verdict s (numbersIn lines)
+  question-told =
+      let p = lines-long 0 n lines e in
+      let g : (i : ℕ) → i < stepNumbers → getD (sets before 0 (numbersIn lines)) i (pos 0) ≡ getD (numbersIn lines) i (pos 0) =
+      λ i m. kept-first (pos 0) (numbersIn lines) before i (omega (arith, p .0, p .1)) (omega arith) in
+      let m : stepNumbers * min n keptLines - stepNumbers ≡ min (stepNumbers * n) keptNumbers - stepNumbers = omega arith in
+      rw (charge-alike (sets before 0 (numbersIn lines)) (numbersIn lines) (λ i r. g i (omega arith)), g chargeNumbers (lit< tt), m)
+      (steps-alike verdict s (numbersIn lines) before (sets before 0 (numbersIn lines)) keptNumbers l (lit< tt) _ _ (stepNumbers * n) (omega (arith, p .0, p .1)) (omega arith) refl)
+
+  pub question-printed : printedWalk (questionTold verdict s n (sets before 0 (numbersIn lines))) ≡ walkPage verdict s (numbersIn lines)
+  question-printed = ap printedWalk question-told
+
+  pub question-noted : (a : WalkAnswer) → paperWalk a ≡ course (questionTold verdict s n (sets before 0 (numbersIn lines))) → refusalNote verdict (paperWalk a) ≡ pageNote verdict s (numbersIn lines)
+  question-noted a p = ap (refusalNote verdict) (p ∙ ap course question-told)
 
 -- a line whole is its fields from the start
 pub whole-line : (line : List ℕ) → fieldsFrom line 0 ≡ fieldsOf line

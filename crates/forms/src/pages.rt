@@ -1,6 +1,8 @@
 // What is printed whole, and the lines on standard error (specs/Pages.antt).
 use air::Millikelvin;
+use refusal::Refusal;
 use sheet::SheetAnswer;
+use walk::WalkAnswer;
 ghost use Prim.Native.Nat.{_+_, _≤_};
 ghost use mathlib.Core.Path.{_≡_};
 ghost use mathlib.Core.List.{_++_};
@@ -9,9 +11,10 @@ ghost use Rattle.rows.specs.Rows.{rowsH};
 ghost use Rattle.text.specs.Bytes.{bytesOf};
 ghost use Rattle.text.specs.Decimal.{decimal};
 ghost use Rattle.text.specs.Puts.{Puts, Stands};
+ghost use Rattle.walk.specs.Walk.{paperWalk};
 ghost use Rattle.console.specs.Answers.{Judged};
 ghost use Rattle.forms.specs.Limits.{usageRoom, exampleRoom, noteRoom};
-ghost use Rattle.forms.specs.Pages.{usageText, examplePage, rowReturned, lineReturned, expected, lineBad};
+ghost use Rattle.forms.specs.Pages.{usageText, examplePage, rowReturned, lineReturned, expected, lineBad, sheetNote, walkNote, refusalNote};
 
 // the example is no longer: a printed walk, a line feed and how to go on (specs/Limits.antt)
 pub const EXAMPLE_ROOM: usize = console::PAGE_ROOM + 1 + 246;
@@ -51,7 +54,7 @@ pub fn put_example(
 {
     let steps = [0i64, 0, 0, 1_200_000_001, 0, 0, 0, 2_400_000];
     let start = burning::inner::charge_in(&[1i64, 0, 0]);
-    let next = console::inner::print_judged(
+    let printed = console::inner::print_judged(
         start,
         Millikelvin(200_000),
         &steps,
@@ -61,7 +64,7 @@ pub fn put_example(
         out,
         0,
     );
-    let line = text::put_byte(10, out, next);
+    let line = text::put_byte(10, out, printed.end);
     put_usage(out, line)
 }
 
@@ -123,4 +126,60 @@ pub fn put_line_bad(line: u64, out: &mut [u8]) -> usize
         out,
     );
     put_expected(line, out, next)
+}
+
+// A number that ends a line.
+fn put_last(number: u32, out: &mut [u8], at: usize) -> usize
+    ensures { λ r. ⌜ Puts 21 (decimal number ++ bytesOf "\n") (now (out .entry)) at r (now (out .exit)) ⌝ }
+{
+    let next = text::put_decimal(number as u64, out, at);
+    text::put_byte(10, out, next)
+}
+
+// What the sheet was refused with, and at which row.
+fn put_sheet_note(refusal: Refusal, out: &mut [u8]) -> usize
+    ensures { λ r. ⌜ Puts noteRoom (sheetNote refusal) (now (out .entry)) 0 r (now (out .exit)) ⌝ }
+{
+    match refusal {
+        Refusal::Plain(number) => {
+            put_note(b"the sheet is refused with ", number as u64, b"\n", out)
+        }
+        Refusal::At(number, row) => {
+            let next = put_note(
+                b"the sheet is refused with ",
+                number as u64,
+                b" at row ",
+                out,
+            );
+            put_last(row, out, next)
+        }
+    }
+}
+
+// What the start, or which step, was refused with.
+fn put_walk_note(answer: WalkAnswer, out: &mut [u8]) -> usize
+    ensures { λ r. ⌜ Puts noteRoom (walkNote (paperWalk answer)) (now (out .entry)) 0 r (now (out .exit)) ⌝ }
+{
+    match answer {
+        WalkAnswer::Done(_, _, _) => 0,
+        WalkAnswer::Stopped(done, number, _, _) => {
+            let next = put_note(b"step ", done as u64 + 1, b" is refused with ", out);
+            put_last(number, out, next)
+        }
+        WalkAnswer::Refused(refusal) => {
+            let number = refusal::number_of(refusal);
+            put_note(b"the start is refused with ", number as u64, b"\n", out)
+        }
+    }
+}
+
+// Whose refusal a printed walk ends in, where it ends in one: the page shows its number alone.
+pub fn put_refusal_note(verdict: SheetAnswer, answer: WalkAnswer, out: &mut [u8]) -> usize
+    requires { ⌜ noteRoom ≤ length (now out) ⌝ }
+    ensures { λ r. ⌜ Stands (refusalNote verdict (paperWalk answer)) (now (out .entry)) 0 r (now (out .exit)) ⌝ }
+{
+    match verdict {
+        SheetAnswer::Good => put_walk_note(answer, out),
+        SheetAnswer::Refused(refusal) => put_sheet_note(refusal, out),
+    }
 }

@@ -1,5 +1,6 @@
 // A question (docs/PROGRAM.md): line by line as many numbers as a step has, first A, c, h, mK, then c, h, calorific value, q for each step; and the printed walk of it.
 use air::Millikelvin;
+use console::inner::Printed;
 use sheet::SheetAnswer;
 ghost use Prim.Native.Nat.{_+_, _≤_, min};
 ghost use mathlib.Core.Path.{_≡_};
@@ -7,10 +8,12 @@ ghost use lib.ListN.{length};
 ghost use Rattle.rows.specs.Rows.{rowsH};
 ghost use Rattle.text.specs.Puts.{Stands};
 ghost use Rattle.walk.specs.Limits.{stepNumbers};
+ghost use Rattle.walk.specs.Walk.{course, paperWalk};
 ghost use Rattle.console.specs.Limits.{pageRoom};
 ghost use Rattle.console.specs.Answers.{Judged};
+ghost use Rattle.console.specs.Walks.{printedWalk};
 ghost use Rattle.forms.specs.Limits.{keptNumbers, keptLines};
-ghost use Rattle.forms.specs.inner.Taking.{oneMore, keptLine, withNext, numbersNext, withLine, numbersWith, questionPage};
+ghost use Rattle.forms.specs.inner.Taking.{oneMore, keptLine, withNext, numbersNext, withLine, numbersWith, questionTold};
 
 // The start and the steps of a walk that is one step too long: where the list is full, document 01 refuses the walk with 13.
 const KEPT_LINES: u64 = walk::MOST_STEPS as u64 + 2;
@@ -77,7 +80,7 @@ pub fn take(question: Question, line: &[u8], numbers: &mut [i64]) -> Question
 }
 
 // How many of so many lines the list holds.
-pub fn kept(lines: u64) -> usize
+fn kept(lines: u64) -> usize
     requires { ⌜ 1 ≤ lines ⌝ }
     ensures { λ r. ⌜ (1 ≤ r) × (r ≡ min lines keptLines) ⌝ }
 {
@@ -88,7 +91,7 @@ pub fn kept(lines: u64) -> usize
     }
 }
 
-// The printed walk of a question of so many lines: the whole page stands in the buffer.
+// The printed walk of a question of so many lines: the whole page stands in the buffer. What the walk came to is answered with its end.
 pub fn put_page(
     lines: u64,
     numbers: &[i64],
@@ -97,9 +100,10 @@ pub fn put_page(
     air: &[u32; rows::ROWS],
     out: &mut [u8],
     at: usize,
-) -> usize
+) -> Printed
     requires { ⌜ Judged verdict (now sheet) × (length (now numbers) ≡ keptNumbers) × (1 ≤ lines) × (at + pageRoom ≤ length (now out)) × (now air ≡ rowsH) ⌝ }
-    ensures { λ r. ⌜ Stands (questionPage verdict (now (sheet .entry)) lines (now (numbers .entry))) (now (out .entry)) at r (now (out .exit)) ⌝ }
+    ensures { λ r. ⌜ Stands (printedWalk (questionTold verdict (now (sheet .entry)) lines (now (numbers .entry)))) (now (out .entry)) at (r .end) (now (out .exit)) ⌝ }
+    ensures { λ r. ⌜ paperWalk (r .answer) ≡ course (questionTold verdict (now (sheet .entry)) lines (now (numbers .entry))) ⌝ }
 {
     let start = burning::inner::charge_in(numbers);
     let t = Millikelvin(numbers[burning::inner::CHARGE_NUMBERS]);

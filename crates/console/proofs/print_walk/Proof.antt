@@ -21,7 +21,8 @@ returns : tie.Need-returns
 returns c =
     let at-judge = c .before .before .before .before .before in
     let s = at-judge .before .before .before .before .before in
-    rw (printed-once (s .args .sheet .now) (s .args .charge) (s .args .t .0) (s .args .steps .now) (at-judge .judge .result) (at-judge .judge .ensures)) at (c .before .before .print-judged .ensures)
+    rw (printed-once (s .args .sheet .now) (s .args .charge) (s .args .t .0) (s .args .steps .now) (at-judge .judge .result) (at-judge .judge .ensures))
+    at (c .before .before .print-judged .ensures .0)
 
 pub print-walk-spec : {M : Type 1} → statement M
 print-walk-spec = tie.close (tie.spec heat-column-requires judge-requires print-judged-requires same-length returns)

@@ -1,4 +1,4 @@
--- A question taken line by line: what was found so far, and the list that the numbers are kept in. `lines-read`, `lines-kept` and `question-printed` of
+-- A question taken line by line: what was found so far, and the list that the numbers are kept in. `lines-read`, `lines-kept`, `question-printed` and `question-noted` of
 -- QuestionsLaws.antt show that all lines taken are the question of Questions.antt.
 use Prim.Native.Nat.{ℕ, suc, _*_, _-_, min}
 use mathlib.Core.Bool.{cond}
@@ -9,9 +9,11 @@ use lib.ListN.{take, drop, getD}
 use lib.Seq.{sets}
 use Rattle.fields.specs.Fields.{holdsReturn, fieldsOf, valuesOf}
 use Rattle.burning.specs.Burning.{chargeNumbers, chargeIn}
+use Rattle.refusal.specs.Refusals.{Told}
 use Rattle.sheet.specs.declared.SheetAnswer.{SheetAnswer}
 use Rattle.walk.specs.Limits.{stepNumbers}
-use Rattle.console.specs.Walks.{walkTold, printedWalk}
+use Rattle.walk.specs.Walk.{Trace}
+use Rattle.console.specs.Walks.{walkTold}
 use Rattle.forms.specs.Limits.{keptLines, mostCounted}
 use Rattle.forms.specs.Questions.{isLine}
 use Rattle.forms.specs.declared.questions.Question.{Question}
@@ -48,9 +50,9 @@ numbersWith (Returned n) line numbers = numbers
 abbrev pub stepsIn : ℕ → List ℤ → List ℤ
 stepsIn lines numbers = take (stepNumbers * min lines keptLines - stepNumbers) (drop stepNumbers numbers)
 
--- the printed walk of a question of so many lines
-abbrev pub questionPage : SheetAnswer → List ℕ → ℕ → List ℤ → List ℕ
-questionPage verdict s lines numbers = printedWalk (walkTold verdict s (chargeIn numbers) (getD numbers chargeNumbers (pos 0)) (stepsIn lines numbers))
+-- the walk of a question of so many lines
+abbrev pub questionTold : SheetAnswer → List ℕ → ℕ → List ℤ → Told Trace
+questionTold verdict s lines numbers = walkTold verdict s (chargeIn numbers) (getD numbers chargeNumbers (pos 0)) (stepsIn lines numbers)
 
 -- the lines taken one after the other
 abbrev pub withLines : Question → List (List ℕ) → Question

@@ -47,8 +47,8 @@ slice-aggregate-charge-in c = search needs
 charge-in-requires : tie.Need-charge-in-requires
 charge-in-requires c κs = search needs
 
-array-copy-out-t22 : tie.Need-array-copy-out-t22
-array-copy-out-t22 c = search needs
+array-copy-out-t23 : tie.Need-array-copy-out-t23
+array-copy-out-t23 c = search needs
 
 part-show-start : tie.Need-part-show-start
 part-show-start c = search needs
@@ -74,9 +74,9 @@ returns-2 c =
     (walk-kept (at-start .args .verdict) (at-start .args .sheet .now) (fieldsFrom (at-start .args .line .now) (at-start .args .from))
     (replicate heldNumbers (pos 0)) (at-read-numbers .read-numbers .last .1 .1 .0) refl (at-read-numbers .read-numbers .result) (at-held-of .held-of .result)
     (at-read-numbers .read-numbers .ensures .0) (at-read-numbers .read-numbers .ensures .1) (at-held-of .held-of .ensures) (at-if1 .if1 .left))
-    at (rw (at-charge-in .charge-in .ensures, back f3) at (c .before .before .show .ensures))
+    at (rw (at-charge-in .charge-in .ensures, back f3) at (c .before .before .show .ensures .0))
 
 pub reply-walk-spec : {M : Type 1} → statement M
 reply-walk-spec =
     tie.close (tie.spec slice-aggregate-read-numbers read-numbers-requires held-of-requires put-misfit-requires same-length returns slice-aggregate-charge-in
-    charge-in-requires array-copy-out-t22 part-show-start part-show-end show-requires same-length-2 returns-2)
+    charge-in-requires array-copy-out-t23 part-show-start part-show-end show-requires same-length-2 returns-2)

@@ -38,14 +38,16 @@ same-length c = search needs
 returns : tie.Need-returns
 returns c =
     let at-walk-held = c .before .before .before .before .before .before .before .before .before .before in
-    let at-start = at-walk-held .before .before .before .before .before .before in
-    rw
-    (walk-shown
-    (walkTold (at-start .args .verdict) (at-start .args .sheet .now) (at-start .args .charge) ((at-start .args .t) .0) (at-start .args .steps .now))
-    (at-walk-held .walk-held .ensures)
-    (walk-searched (at-start .args .verdict) (at-start .args .sheet .now) (at-start .args .charge) ((at-start .args .t) .0) (at-start .args .steps .now))
-    (at-start .args .layout))
-    at (c .before .before .put-walk .ensures)
+    let at-start = at-walk-held .before .before .before .before .before .before in (
+      rw
+          (walk-shown
+          (walkTold (at-start .args .verdict) (at-start .args .sheet .now) (at-start .args .charge) ((at-start .args .t) .0) (at-start .args .steps .now))
+          (at-walk-held .walk-held .ensures)
+          (walk-searched (at-start .args .verdict) (at-start .args .sheet .now) (at-start .args .charge) ((at-start .args .t) .0) (at-start .args .steps .now))
+          (at-start .args .layout))
+          at (c .before .before .put-walk .ensures),
+      at-walk-held .walk-held .ensures .answer,
+    )
 
 pub show-spec : {M : Type 1} → statement M
 show-spec =

@@ -30,7 +30,7 @@ returns : tie.Need-returns
 returns c =
     let at-put-byte = c .before .before .before .before .before .before in
     let at-print-judged = at-put-byte .before .before .before .before in
-    let walk = rw (at-print-judged .before .before .before .charge-in .ensures) at (at-print-judged .print-judged .ensures) in
+    let walk = rw (at-print-judged .before .before .before .charge-in .ensures) at (at-print-judged .print-judged .ensures .0) in
     puts-whole (omega arith) (puts-then (puts-then walk (puts-text (at-put-byte .put-byte .ensures))) (c .before .before .put-usage .ensures))
 
 pub put-example-spec : {M : Type 1} → statement M

@@ -48,7 +48,8 @@ returns c =
     let f : SFits w64 (getD (s .args .numbers .now) chargeNumbers (pos 0)) = search needs in
     let e : stepNumbers * c .before .before .before .before .before .kept .result - stepNumbers ≡ stepNumbers * min (s .args .lines) keptLines - stepNumbers =
     omega (arith, c .before .before .before .before .before .kept .ensures .1) in
-    puts-whole (s .pre .3) (rw (c .before .before .before .before .before .before .before .charge-in .ensures, back f, e) at (c .before .before .print-judged .ensures))
+    let p = rw (c .before .before .before .before .before .before .before .charge-in .ensures, back f, e) at (c .before .before .print-judged .ensures) in
+    (puts-whole (s .pre .3) (p .0), p .1)
 
 pub put-page-spec : {M : Type 1} → statement M
 put-page-spec =
