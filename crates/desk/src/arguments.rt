@@ -4,6 +4,7 @@ use forms::arguments::Form;
 use forms::arguments::Words;
 ghost use mathlib.Core.Path.{_≡_};
 ghost use Prim.Native.Nat.{_≤_};
+ghost use mathlib.Core.List.{map};
 ghost use lib.ListN.{length};
 ghost use Rattle.desk.specs.Names.{shownByte};
 
@@ -40,7 +41,9 @@ fn shown(b: u8) -> u8
 }
 
 // Puts `?` for each control byte.
-fn hide(name: &mut [u8]) {
+fn hide(name: &mut [u8])
+    ensures { λ _. ⌜ now (name .exit) ≡ map shownByte (now (name .entry)) ⌝ }
+{
     let mut i = 0;
     while i < name.len() {
         name[i] = shown(name[i]);

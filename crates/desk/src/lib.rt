@@ -56,7 +56,7 @@ fn over_file(
     match sheets::read(i, &mut bytes) {
         Text::Bytes(n) => {
             let verdict = forms::sheets::judge(n, &bytes, list);
-            sheets::say_return(verdict, &bytes[..n]);
+            pages::say_return(verdict, &bytes[..n]);
             serve(job, verdict, list, air, psis, cps);
         }
         Text::Unread => (),

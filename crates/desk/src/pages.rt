@@ -18,32 +18,28 @@ pub(crate) fn say_usage() {
 // Prints how to go on.
 pub(crate) fn print_usage() {
     let mut out = io::buffer();
-    let end = pages::put_usage(&mut out, 0);
+    let end = pages::put_help(&mut out);
     stream::flush(&out, Output::At(end));
 }
 
 // Prints the version, and which sheet is built in.
 pub(crate) fn print_version() {
-    let mut out = [0u8; 64];
-    let end = text::put_text(
-        b"gas keys 1, built-in sheet: R. & M. 3099, Table 5\n",
-        &mut out,
-        0,
-    );
+    let mut out = io::buffer();
+    let end = pages::put_version(&mut out);
     stream::flush(&out, Output::At(end));
 }
 
 // Says on standard error where `--sheet FILE` belongs.
 pub(crate) fn say_misplaced() {
-    let mut out = [0u8; 64];
-    let end = text::put_text(b"keys: --sheet FILE stands at the end\n", &mut out, 0);
+    let mut out = io::buffer();
+    let end = pages::put_misplaced(&mut out);
     stream::say(&out, end);
 }
 
-// Says on standard error which row of a sheet's text has a carriage return.
-pub(crate) fn say_returned_row(row: u32) {
-    let mut out = [0u8; 96];
-    let end = pages::put_row_returned(row, &mut out);
+// Says on standard error that the row for which a text is refused has a carriage return, where it has one.
+pub(crate) fn say_return(verdict: SheetAnswer, text: &[u8]) {
+    let mut out = io::buffer();
+    let end = pages::put_return_note(verdict, text, &mut out);
     stream::say(&out, end);
 }
 

@@ -1,6 +1,6 @@
 -- What `keys` prints whole (docs/PROGRAM.md): the built-in example with how to go on; and its lines on standard error.
-use Prim.Native.Nat.{ℕ, _+_}
-use mathlib.Core.Bool.{cond}
+use Prim.Native.Nat.{ℕ, zero, suc, _+_}
+use mathlib.Core.Bool.{Bool, true, false, cond}
 use mathlib.Core.List.{List, [], _∷_, _++_}
 use lib.Dec.{eqb}
 use lib.IntN.{pos}
@@ -27,6 +27,14 @@ abbrev pub examplePage : SheetAnswer → List ℕ → List ℕ
 examplePage verdict s =
     (printedWalk (walkTold verdict s (chargeIn (pos 1 ∷ pos 0 ∷ pos 0 ∷ [])) (pos 200000)
     (pos 0 ∷ pos 0 ∷ pos 0 ∷ pos 1200000001 ∷ pos 0 ∷ pos 0 ∷ pos 0 ∷ pos 2400000 ∷ [])) ++ bytesOf "\n") ++ usageText
+
+-- the version, and which sheet is built in
+abbrev pub versionText : List ℕ
+versionText = bytesOf "gas keys 1, built-in sheet: R. & M. 3099, Table 5\n"
+
+-- ---- lines on standard error
+abbrev pub misplacedText : List ℕ
+misplacedText = bytesOf "keys: --sheet FILE stands at the end\n"
 
 abbrev pub rowReturned : ℕ → List ℕ
 rowReturned row = (bytesOf "row " ++ decimal row) ++ bytesOf " has a carriage return; lines end in a line feed alone\n"
@@ -56,3 +64,16 @@ walkNote (refused r) = (bytesOf "the start is refused with " ++ decimal (numberO
 abbrev pub refusalNote : SheetAnswer → Told Course → List ℕ
 refusalNote Good told = walkNote told
 refusalNote (Refused r) told = sheetNote r
+
+-- ---- why the form of a sheet's text is refused: a line of it may end in a carriage return
+-- a carriage return stands in row n of a text, rows being parted by line feeds
+abbrev pub returnIn : ℕ → List ℕ → Bool
+returnIn n [] = false
+returnIn zero (b ∷ bs) = cond (eqb b 10) false (cond (eqb b 13) true (returnIn zero bs))
+returnIn (suc n) (b ∷ bs) = cond (eqb b 10) (returnIn n bs) (returnIn (suc n) bs)
+
+-- said of the row for which the form is refused, with 2, where it has one
+abbrev pub returnNote : SheetAnswer → List ℕ → List ℕ
+returnNote Good text = []
+returnNote (Refused (Plain number)) text = []
+returnNote (Refused (At number row)) text = cond (eqb number 2) (cond (returnIn row text) (rowReturned row) []) []

@@ -14,13 +14,13 @@ ghost use Rattle.text.specs.Puts.{Puts, Stands};
 ghost use Rattle.walk.specs.Walk.{paperWalk};
 ghost use Rattle.console.specs.Answers.{Judged};
 ghost use Rattle.forms.specs.Limits.{usageRoom, exampleRoom, noteRoom};
-ghost use Rattle.forms.specs.Pages.{usageText, examplePage, rowReturned, lineReturned, expected, lineBad, sheetNote, walkNote, refusalNote};
+ghost use Rattle.forms.specs.Pages.{usageText, examplePage, versionText, misplacedText, rowReturned, lineReturned, expected, lineBad, sheetNote, walkNote, refusalNote, returnIn, returnNote};
 
 // the example is no longer: a printed walk, a line feed and how to go on (specs/Limits.antt)
 pub const EXAMPLE_ROOM: usize = console::PAGE_ROOM + 1 + 246;
 
 // How to go on.
-pub fn put_usage(out: &mut [u8], at: usize) -> usize
+fn put_usage(out: &mut [u8], at: usize) -> usize
     ensures { λ r. ⌜ Puts usageRoom usageText (now (out .entry)) at r (now (out .exit)) ⌝ }
 {
     text::put_text(
@@ -31,6 +31,34 @@ pub fn put_usage(out: &mut [u8], at: usize) -> usize
         out,
         at,
     )
+}
+
+// How to go on, alone.
+pub fn put_help(out: &mut [u8]) -> usize
+    requires { ⌜ usageRoom ≤ length (now out) ⌝ }
+    ensures { λ r. ⌜ Stands usageText (now (out .entry)) 0 r (now (out .exit)) ⌝ }
+{
+    put_usage(out, 0)
+}
+
+// The version, and which sheet is built in.
+pub fn put_version(out: &mut [u8]) -> usize
+    requires { ⌜ noteRoom ≤ length (now out) ⌝ }
+    ensures { λ r. ⌜ Stands versionText (now (out .entry)) 0 r (now (out .exit)) ⌝ }
+{
+    text::put_text(
+        b"gas keys 1, built-in sheet: R. & M. 3099, Table 5\n",
+        out,
+        0,
+    )
+}
+
+// Where `--sheet FILE` belongs.
+pub fn put_misplaced(out: &mut [u8]) -> usize
+    requires { ⌜ noteRoom ≤ length (now out) ⌝ }
+    ensures { λ r. ⌜ Stands misplacedText (now (out .entry)) 0 r (now (out .exit)) ⌝ }
+{
+    text::put_text(b"keys: --sheet FILE stands at the end\n", out, 0)
 }
 
 // That the arguments are no form, and which there are.
@@ -77,8 +105,50 @@ fn put_note(word: &[u8], number: u64, said: &[u8], out: &mut [u8]) -> usize
     text::put_text(said, out, after)
 }
 
+// Whether a row of a text has a carriage return.
+fn returned_in(row: u32, text: &[u8]) -> bool
+    ensures { λ r. ⌜ r ≡ returnIn row (now (text .entry)) ⌝ }
+{
+    let mut left = row;
+    let mut i = 0;
+    while i < text.len() {
+        let b = text[i];
+        if b == 10 {
+            if left == 0 {
+                return false;
+            }
+            left -= 1;
+        } else if b == 13 {
+            if left == 0 {
+                return true;
+            }
+        }
+        i += 1;
+    }
+    false
+}
+
+// That the row for which the form of a sheet's text is refused has a carriage return, where it has one.
+pub fn put_return_note(verdict: SheetAnswer, text: &[u8], out: &mut [u8]) -> usize
+    requires { ⌜ noteRoom ≤ length (now out) ⌝ }
+    ensures { λ r. ⌜ Stands (returnNote verdict (now (text .entry))) (now (out .entry)) 0 r (now (out .exit)) ⌝ }
+{
+    let SheetAnswer::Refused(refusal) = verdict else {
+        return 0;
+    };
+    let Refusal::At(number, row) = refusal else {
+        return 0;
+    };
+    if number == 2 {
+        if returned_in(row, text) {
+            return put_row_returned(row, out);
+        }
+    }
+    0
+}
+
 // Which row of a sheet's text has a carriage return.
-pub fn put_row_returned(row: u32, out: &mut [u8]) -> usize
+fn put_row_returned(row: u32, out: &mut [u8]) -> usize
     requires { ⌜ noteRoom ≤ length (now out) ⌝ }
     ensures { λ r. ⌜ Stands (rowReturned row) (now (out .entry)) 0 r (now (out .exit)) ⌝ }
 {

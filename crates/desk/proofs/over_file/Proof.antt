@@ -9,49 +9,34 @@ use Rattle.stream.specs.declared.Text.{Text}
 use borrow.Author.Needs.{needs}
 use Rattle.desk.proofs.over_file.Statement.{statement}
 use Rattle.desk.proofs.over_file.Tie as tie
-use Rattle.desk.proofs.over_file.Reads as reads
-use Rattle.desk.proofs.over_file.Lts as lts
-use Rattle.desk.proofs.serve.Reads as serve-reads
-use Rattle.desk.proofs.sheets.read.Reads as read-reads
-use Rattle.desk.proofs.sheets.say_return.Reads as say-return-reads
-use Rattle.forms.proofs.sheets.judge.Reads as judge-reads
-use Rattle.io.proofs.large_buffer.Reads as large-buffer-reads
 
--- src/lib.rt:56:21
 large-buffer-requires : tie.Need-large-buffer-requires
 large-buffer-requires c κs = search needs
 
--- src/lib.rt:57:27
 slice-aggregate-read : tie.Need-slice-aggregate-read
 slice-aggregate-read c = search needs
 
--- src/lib.rt:57:11
 read-requires : tie.Need-read-requires
 read-requires c κs = search needs
 
--- src/lib.rt:58:21
 enum-known-n : tie.Need-enum-known-n
 enum-known-n c = search needs
 
--- src/lib.rt:59:51
 slice-aggregate-judge : tie.Need-slice-aggregate-judge
 slice-aggregate-judge c = search needs
 
--- src/lib.rt:59:17
 judge-requires : tie.Need-judge-requires
 judge-requires c κs =
     let at-n = c .before .before .before in
     let at-read = at-n .before .before .before in
     let h : at-n .n .given .0 .0 ≤ length (at-read .read .last .1 .0) = subst (λ (x : Text). Filled x (at-read .read .last .1 .0)) (at-n .n .given .1) (at-read .read .ensures) in h
 
--- src/lib.rt:60:41
 array-share-prefix-bytes : tie.Need-array-share-prefix-bytes
 array-share-prefix-bytes c =
     let at-n = c .before .before .before .before .before .before in
     let at-read = at-n .before .before .before in
     let h : at-n .n .given .0 .0 ≤ length (at-read .read .last .1 .0) = subst (λ (x : Text). Filled x (at-read .read .last .1 .0)) (at-n .n .given .1) (at-read .read .ensures) in h
 
--- src/lib.rt:60:41
 slice-aggregate-say-return : tie.Need-slice-aggregate-say-return
 slice-aggregate-say-return c =
     let at-n = c .before .before .before .before .before .before .before in
@@ -59,11 +44,9 @@ slice-aggregate-say-return c =
     let h : at-n .n .given .0 .0 ≤ length (at-read .read .last .1 .0) = subst (λ (x : Text). Filled x (at-read .read .last .1 .0)) (at-n .n .given .1) (at-read .read .ensures) in
     simp length-take (omega arith)
 
--- src/lib.rt:60:13
 say-return-requires : tie.Need-say-return-requires
 say-return-requires c κs = search needs
 
--- src/lib.rt:61:13
 serve-requires : tie.Need-serve-requires
 serve-requires c κs =
     let at-judge = c .before .before .before .before .before in
@@ -73,15 +56,12 @@ serve-requires c κs =
 enum-told : tie.Need-enum-told
 enum-told c = search needs
 
--- src/lib.rt:46:1
 same-length : tie.Need-same-length
 same-length c = search needs
 
--- src/lib.rt:46:1
 returns : tie.Need-returns
 returns c = search needs
 
--- src/lib.rt:46:1
 returns-2 : tie.Need-returns-2
 returns-2 c = search needs
 

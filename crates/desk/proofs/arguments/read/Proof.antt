@@ -4,12 +4,6 @@ use borrow.Author.Needs.{needs}
 use Prim.Native.Nat.{_-_}
 use Rattle.desk.proofs.arguments.read.Statement.{statement}
 use Rattle.desk.proofs.arguments.read.Tie as tie
-use Rattle.desk.proofs.arguments.read.Reads as reads
-use Rattle.desk.proofs.arguments.read.Lts as lts
-use Rattle.desk.proofs.arguments.see.Reads as see-reads
-use Rattle.forms.proofs.arguments.form_of.Reads as form-of-reads
-use Rattle.forms.proofs.arguments.none.Reads as none-reads
-use Rattle.os.proofs.arg_count.Reads as arg-count-reads
 
 abbrev Inv-loop : tie.InvT-loop
 Inv-loop count words₀ i₀ words i = Unit {0}
@@ -17,39 +11,30 @@ Inv-loop count words₀ i₀ words i = Unit {0}
 abbrev μ-loop : tie.MeasureT-loop
 μ-loop count words₀ i₀ words i = count - i
 
--- src/arguments.rt:22:9
 arg-count-requires : tie.Need-arg-count-requires Inv-loop μ-loop
 arg-count-requires c κs = search needs
 
--- src/arguments.rt:23:9
 none-requires : tie.Need-none-requires Inv-loop μ-loop
 none-requires c κs = search needs
 
--- src/arguments.rt:25:5
 loop-holds : tie.Need-loop-holds Inv-loop μ-loop
 loop-holds c = search needs
 
--- src/arguments.rt:26:9
 see-requires : tie.Need-see-requires Inv-loop μ-loop
 see-requires c κs = search needs
 
--- src/arguments.rt:27:9
 add-i : tie.Need-add-i Inv-loop μ-loop
 add-i c = search needs
 
--- src/arguments.rt:25:5
 loop-less : tie.Need-loop-less Inv-loop μ-loop
 loop-less c = search needs
 
--- src/arguments.rt:25:5
 loop-again : tie.Need-loop-again Inv-loop μ-loop
 loop-again c = search needs
 
--- src/arguments.rt:29:5
 form-of-requires : tie.Need-form-of-requires Inv-loop μ-loop
 form-of-requires c κs = search needs
 
--- src/arguments.rt:21:1
 returns : tie.Need-returns Inv-loop μ-loop
 returns c = search needs
 

@@ -8,43 +8,28 @@ use Rattle.stream.specs.declared.Text.{Text}
 use borrow.Author.Needs.{needs}
 use Rattle.desk.proofs.sheets.report.Statement.{statement}
 use Rattle.desk.proofs.sheets.report.Tie as tie
-use Rattle.desk.proofs.sheets.report.Reads as reads
-use Rattle.desk.proofs.sheets.report.Lts as lts
-use Rattle.desk.proofs.sheets.read.Reads as read-reads
-use Rattle.desk.proofs.sheets.say_return.Reads as say-return-reads
-use Rattle.forms.proofs.sheets.report.Reads as report-reads
-use Rattle.io.proofs.large_buffer.Reads as large-buffer-reads
-use Rattle.stream.proofs.flush.Reads as flush-reads
 
--- src/sheets.rt:124:21
 large-buffer-requires : tie.Need-large-buffer-requires
 large-buffer-requires c κs = search needs
 
--- src/sheets.rt:125:19
 slice-aggregate-read : tie.Need-slice-aggregate-read
 slice-aggregate-read c = search needs
 
--- src/sheets.rt:125:11
 read-requires : tie.Need-read-requires
 read-requires c κs = search needs
 
--- src/sheets.rt:126:21
 enum-known-n : tie.Need-enum-known-n
 enum-known-n c = search needs
 
--- src/sheets.rt:128:49
 slice-aggregate-report : tie.Need-slice-aggregate-report
 slice-aggregate-report c = search needs
 
--- src/sheets.rt:128:57
 slice-aggregate-report-2 : tie.Need-slice-aggregate-report-2
 slice-aggregate-report-2 c = search needs
 
--- src/sheets.rt:128:68
 slice-aggregate-report-3 : tie.Need-slice-aggregate-report-3
 slice-aggregate-report-3 c = search needs
 
--- src/sheets.rt:128:17
 report-requires : tie.Need-report-requires
 report-requires c κs =
     let at-n = c .before .before .before .before in
@@ -52,14 +37,12 @@ report-requires c κs =
     let h : at-n .n .given .0 .0 ≤ length (at-read .read .last .1 .0) = subst (λ (x : Text). Filled x (at-read .read .last .1 .0)) (at-n .n .given .1) (at-read .read .ensures) in
     (h, omega arith)
 
--- src/sheets.rt:131:33
 array-share-prefix-bytes : tie.Need-array-share-prefix-bytes
 array-share-prefix-bytes c =
     let at-n = c .before .before .before .before .before .before .before in
     let at-read = at-n .before .before .before in
     let h : at-n .n .given .0 .0 ≤ length (at-read .read .last .1 .0) = subst (λ (x : Text). Filled x (at-read .read .last .1 .0)) (at-n .n .given .1) (at-read .read .ensures) in h
 
--- src/sheets.rt:131:33
 slice-aggregate-say-return : tie.Need-slice-aggregate-say-return
 slice-aggregate-say-return c =
     let at-n = c .before .before .before .before .before .before .before .before in
@@ -67,26 +50,21 @@ slice-aggregate-say-return c =
     let h : at-n .n .given .0 .0 ≤ length (at-read .read .last .1 .0) = subst (λ (x : Text). Filled x (at-read .read .last .1 .0)) (at-n .n .given .1) (at-read .read .ensures) in
     simp length-take (omega arith)
 
--- src/sheets.rt:131:13
 say-return-requires : tie.Need-say-return-requires
 say-return-requires c κs = search needs
 
--- src/sheets.rt:132:27
 slice-aggregate-flush : tie.Need-slice-aggregate-flush
 slice-aggregate-flush c = search needs
 
--- src/sheets.rt:132:13
 flush-requires : tie.Need-flush-requires
 flush-requires c κs = search needs
 
 enum-told : tie.Need-enum-told
 enum-told c = search needs
 
--- src/sheets.rt:122:1
 returns : tie.Need-returns
 returns c = search needs
 
--- src/sheets.rt:122:1
 returns-2 : tie.Need-returns-2
 returns-2 c = search needs
 

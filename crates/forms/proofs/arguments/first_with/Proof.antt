@@ -3,14 +3,10 @@ use borrow.Author.Tests.{eq-eqb, ne-eqb}
 use mathlib.Core.Path.{refl}
 use Rattle.forms.proofs.arguments.first_with.Statement.{statement}
 use Rattle.forms.proofs.arguments.first_with.Tie as tie
-use Rattle.forms.proofs.arguments.first_with.Reads as reads
-use Rattle.forms.proofs.arguments.first_with.Lts as lts
 
--- src/arguments.rt:98:1
 returns : tie.Need-returns
 returns c = rw (eq-eqb (c .before .args .i) 1 (c .if1 .taken)) refl
 
--- src/arguments.rt:98:1
 returns-2 : tie.Need-returns-2
 returns-2 c = rw (ne-eqb (c .before .args .i) 1 (c .if1 .left)) refl
 

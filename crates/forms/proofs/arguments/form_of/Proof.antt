@@ -6,31 +6,22 @@ use mathlib.Core.Path.{refl}
 use borrow.Author.Needs.{needs}
 use Rattle.forms.proofs.arguments.form_of.Statement.{statement}
 use Rattle.forms.proofs.arguments.form_of.Tie as tie
-use Rattle.forms.proofs.arguments.form_of.Reads as reads
-use Rattle.forms.proofs.arguments.form_of.Lts as lts
-use Rattle.forms.proofs.arguments.plain.Reads as plain-reads
 
--- src/arguments.rt:118:9
 plain-requires : tie.Need-plain-requires
 plain-requires c κs = search needs
 
--- src/arguments.rt:118:9
 returns : tie.Need-returns
 returns c = rw (eq-eqb (c .before .before .args .words .option) 0 (c .before .if1 .taken)) (c .plain .ensures)
 
--- src/arguments.rt:121:12
 sub-if3 : tie.Need-sub-if3
 sub-if3 c = search needs
 
--- src/arguments.rt:122:57
 add-t9 : tie.Need-add-t9
 add-t9 c = search needs
 
--- src/arguments.rt:122:13
 plain-requires-2 : tie.Need-plain-requires-2
 plain-requires-2 c κs = search needs
 
--- src/arguments.rt:122:13
 returns-2 : tie.Need-returns-2
 returns-2 c =
     let at-if1 = c .before .before .before in
@@ -41,7 +32,6 @@ returns-2 c =
     )
     (c .plain2 .ensures)
 
--- src/arguments.rt:112:1
 returns-3 : tie.Need-returns-3
 returns-3 c =
     let at-start = c .before .before .before in
@@ -50,7 +40,6 @@ returns-3 c =
       ne-eqb (at-start .args .count) ((at-start .args .words .option) + 2) (λ e. c .if3 .left (omega (arith, e, c .before .if2 .taken))),
     ) refl
 
--- src/arguments.rt:112:1
 returns-4 : tie.Need-returns-4
 returns-4 c =
     rw (

@@ -4,19 +4,13 @@ use mathlib.Core.Path.{refl}
 use borrow.Author.Needs.{needs}
 use Rattle.forms.proofs.arguments.option_with.Statement.{statement}
 use Rattle.forms.proofs.arguments.option_with.Tie as tie
-use Rattle.forms.proofs.arguments.option_with.Reads as reads
-use Rattle.forms.proofs.arguments.option_with.Lts as lts
-use Rattle.forms.proofs.arguments.option_at.Reads as option-at-reads
 
--- src/arguments.rt:109:9
 option-at-requires : tie.Need-option-at-requires
 option-at-requires c κs = search needs
 
--- src/arguments.rt:105:1
 returns : tie.Need-returns
 returns c = rw (eq-eqb (c .before .before .args .before) 0 (c .before .if1 .taken)) (c .option-at .ensures)
 
--- src/arguments.rt:105:1
 returns-2 : tie.Need-returns-2
 returns-2 c = rw (ne-eqb (c .before .args .before) 0 (c .if1 .left)) refl
 

@@ -4,30 +4,21 @@ use mathlib.Core.Path.{refl}
 use borrow.Author.Needs.{needs}
 use Rattle.forms.proofs.arguments.plain.Statement.{statement}
 use Rattle.forms.proofs.arguments.plain.Tie as tie
-use Rattle.forms.proofs.arguments.plain.Reads as reads
-use Rattle.forms.proofs.arguments.plain.Lts as lts
-use Rattle.forms.proofs.arguments.alone.Reads as alone-reads
-use Rattle.forms.proofs.arguments.with_file.Reads as with-file-reads
 
--- src/arguments.rt:133:9
 returns : tie.Need-returns
 returns c = rw (lt-ltb (c .before .args .count) 2 (c .if1 .taken)) refl
 
--- src/arguments.rt:136:9
 alone-requires : tie.Need-alone-requires
 alone-requires c κs = search needs
 
--- src/arguments.rt:136:9
 returns-2 : tie.Need-returns-2
 returns-2 c =
     let at-start = c .before .before .before in
     rw (le-ltb (at-start .args .count) 2 (c .before .before .if1 .left), eq-eqb (at-start .args .count) 2 (c .before .if2 .taken)) (c .alone .ensures)
 
--- src/arguments.rt:139:9
 with-file-requires : tie.Need-with-file-requires
 with-file-requires c κs = search needs
 
--- src/arguments.rt:139:9
 returns-3 : tie.Need-returns-3
 returns-3 c =
     let at-if1 = c .before .before .before in
@@ -36,7 +27,6 @@ returns-3 c =
     (le-ltb (at-start .args .count) 2 (at-if1 .if1 .left), ne-eqb (at-start .args .count) 2 (c .before .before .if2 .left), eq-eqb (at-start .args .count) 3 (c .before .if3 .taken))
     (c .with-file .ensures)
 
--- src/arguments.rt:129:1
 returns-4 : tie.Need-returns-4
 returns-4 c =
     let at-start = c .before .before .before in

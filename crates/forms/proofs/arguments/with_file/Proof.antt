@@ -2,67 +2,49 @@
 use borrow.Author.Needs.{needs}
 use Rattle.forms.proofs.arguments.with_file.Statement.{statement}
 use Rattle.forms.proofs.arguments.with_file.Tie as tie
-use Rattle.forms.proofs.arguments.with_file.Reads as reads
-use Rattle.forms.proofs.arguments.with_file.Lts as lts
-use Rattle.forms.proofs.arguments.over_none.Reads as over-none-reads
 
--- src/arguments.rt:164:22
 enum-told : tie.Need-enum-told
 enum-told c = search needs
 
--- src/arguments.rt:165:44
 enum-told-2 : tie.Need-enum-told-2
 enum-told-2 c = search needs
 
--- src/arguments.rt:166:34
 enum-told-3 : tie.Need-enum-told-3
 enum-told-3 c = search needs
 
--- src/arguments.rt:166:24
 over-none-requires : tie.Need-over-none-requires
 over-none-requires c κs = search needs
 
--- src/arguments.rt:167:25
 enum-told-4 : tie.Need-enum-told-4
 enum-told-4 c = search needs
 
--- src/arguments.rt:168:23
 enum-told-5 : tie.Need-enum-told-5
 enum-told-5 c = search needs
 
--- src/arguments.rt:169:26
 enum-told-6 : tie.Need-enum-told-6
 enum-told-6 c = search needs
 
--- src/arguments.rt:170:24
 enum-told-7 : tie.Need-enum-told-7
 enum-told-7 c = search needs
 
--- src/arguments.rt:160:1
 returns : tie.Need-returns
 returns c = search needs
 
--- src/arguments.rt:160:1
 returns-2 : tie.Need-returns-2
 returns-2 c = cc
 
--- src/arguments.rt:160:1
 returns-3 : tie.Need-returns-3
 returns-3 c = cc
 
--- src/arguments.rt:160:1
 returns-4 : tie.Need-returns-4
 returns-4 c = search needs
 
--- src/arguments.rt:160:1
 returns-5 : tie.Need-returns-5
 returns-5 c = search needs
 
--- src/arguments.rt:160:1
 returns-6 : tie.Need-returns-6
 returns-6 c = search needs
 
--- src/arguments.rt:160:1
 returns-7 : tie.Need-returns-7
 returns-7 c = search needs
 

@@ -34,13 +34,4 @@ returns-2 c =
 
 pub put-refusal-note-spec : {M : Type 1} → statement M
 put-refusal-note-spec =
-    tie.close
-    (tie.spec
-    enum-told
-    put-walk-note-requires
-    enum-known-verdict
-    put-sheet-note-requires
-    same-length
-    returns
-    same-length-2
-    returns-2)
+    tie.close (tie.spec enum-told put-walk-note-requires enum-known-verdict put-sheet-note-requires same-length returns same-length-2 returns-2)

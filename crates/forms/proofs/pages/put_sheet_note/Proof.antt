@@ -54,20 +54,5 @@ returns-2 c =
 
 pub put-sheet-note-spec : {M : Type 1} → statement M
 put-sheet-note-spec =
-    tie.close
-    (tie.spec
-    enum-known-refusal
-    slice-aggregate-put-note
-    cast-put-note
-    slice-aggregate-put-note-2
-    put-note-requires
-    enum-known-refusal-2
-    slice-aggregate-put-note-3
-    cast-put-note-2
-    slice-aggregate-put-note-4
-    put-note-requires-2
-    put-last-requires
-    same-length
-    returns
-    same-length-2
-    returns-2)
+    tie.close (tie.spec enum-known-refusal slice-aggregate-put-note cast-put-note slice-aggregate-put-note-2 put-note-requires enum-known-refusal-2
+    slice-aggregate-put-note-3 cast-put-note-2 slice-aggregate-put-note-4 put-note-requires-2 put-last-requires same-length returns same-length-2 returns-2)

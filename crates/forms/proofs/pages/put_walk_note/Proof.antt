@@ -68,24 +68,6 @@ returns-3 c =
 
 pub put-walk-note-spec : {M : Type 1} → statement M
 put-walk-note-spec =
-    tie.close
-    (tie.spec
-    enum-told
-    enum-known-answer
-    slice-aggregate-put-note
-    cast-put-note
-    add-put-note
-    slice-aggregate-put-note-2
-    put-note-requires
-    put-last-requires
-    enum-known-answer-2
-    number-of-requires
-    slice-aggregate-put-note-3
-    cast-put-note-2
-    slice-aggregate-put-note-4
-    put-note-requires-2
-    returns
-    same-length
-    returns-2
-    same-length-2
-    returns-3)
+    tie.close (tie.spec enum-told enum-known-answer slice-aggregate-put-note cast-put-note add-put-note slice-aggregate-put-note-2 put-note-requires put-last-requires
+    enum-known-answer-2 number-of-requires slice-aggregate-put-note-3 cast-put-note-2 slice-aggregate-put-note-4 put-note-requires-2 returns same-length returns-2
+    same-length-2 returns-3)

@@ -1,6 +1,6 @@
 -- `take_next`: the line by whether it holds a carriage return and whether it is as many numbers as a step has; the numbers are kept where it is.
 use mathlib.Core.Bool.{true, false}
-use mathlib.Core.Path.{_≡_, refl, sym, ap, _∙_}
+use mathlib.Core.Path.{_≡_, refl, sym, _∙_}
 use borrow.Author.Needs.{needs}
 use lib.IntN.{pos}
 use lib.ListN.{replicate}
