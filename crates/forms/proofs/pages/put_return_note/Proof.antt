@@ -1,8 +1,15 @@
 -- `put_return_note`: nothing of a sheet that is good, or refused with another number than 2; else the row's note where it has a carriage return.
 use native.Mathlib.Omega.{arith}
 use Prim.Native.Nat.{ℕ}
+use mathlib.Core.Bool.{Bool, cond}
 use mathlib.Core.List.{List, []}
+use mathlib.Core.Path.{_≡_, refl}
 use borrow.Author.Tests.{eq-eqb, ne-eqb}
+use Rattle.refusal.specs.declared.Refusal.{Refusal}
+use Rattle.refusal.specs.declared.Refusal.the-variants.{At}
+use Rattle.sheet.specs.declared.SheetAnswer.{SheetAnswer}
+use Rattle.sheet.specs.declared.SheetAnswer.the-variants.{Refused}
+use Rattle.forms.specs.Pages.{rowReturned, returnIn, returnNote}
 use Rattle.text.specs.Puts.{Stands}
 use Rattle.text.specs.PutsLaws.{puts-none, puts-whole}
 use borrow.Author.Needs.{needs}
@@ -11,6 +18,11 @@ use Rattle.forms.proofs.pages.put_return_note.Tie as tie
 
 nothing : (b : List ℕ) → Stands [] b 0 0 b
 nothing b = puts-whole (omega arith) (puts-none b 0 (omega arith))
+
+-- a text whose form is refused at a row: what is said of it hangs on what that row holds
+in-row : (text : List ℕ) {v : SheetAnswer} {r : Refusal} {number row : ℕ} {t : Bool} → v ≡ Refused r → r ≡ At number row → number ≡ 2 → t ≡ returnIn row text
+    → returnNote v text ≡ cond t (rowReturned row) []
+in-row text {number = number} a b e q = rw (a, b, eq-eqb number 2 e, ← q) refl
 
 enum-known-verdict : tie.Need-enum-known-verdict
 enum-known-verdict c = search needs
@@ -44,27 +56,17 @@ returns-3 c =
     let at-if2 = c .before .before .before .before in
     let at-if1 = at-if2 .before .before in
     let at-refusal = at-if1 .before .before in
-    rw (
-      at-refusal .before .before .before .verdict .given .1,
-      at-refusal .refusal .given .1,
-      eq-eqb (at-refusal .refusal .given .0 .0) 2 (at-if1 .if1 .taken),
-      ← at-if2 .before .returned-in .ensures,
-      at-if2 .if2 .taken,
-    )
-    (c .before .before .put-row-returned .ensures)
+    let text = at-refusal .before .before .before .before .before .before .before .args .text .now in
+    let e = in-row text (at-refusal .before .before .before .verdict .given .1) (at-refusal .refusal .given .1) (at-if1 .if1 .taken) (at-if2 .before .returned-in .ensures) in
+    rw (e, at-if2 .if2 .taken) (c .before .before .put-row-returned .ensures)
 
 returns-4 : tie.Need-returns-4
 returns-4 c =
     let at-if1 = c .before .before in
     let at-refusal = at-if1 .before .before in
-    rw (
-      at-refusal .before .before .before .verdict .given .1,
-      at-refusal .refusal .given .1,
-      eq-eqb (at-refusal .refusal .given .0 .0) 2 (at-if1 .if1 .taken),
-      ← c .before .returned-in .ensures,
-      c .if2 .left,
-    )
-    (nothing (c .before .before .before .before .before .before .before .before .before .before .before .args .out .now))
+    let text = at-refusal .before .before .before .before .before .before .before .args .text .now in
+    let e = in-row text (at-refusal .before .before .before .verdict .given .1) (at-refusal .refusal .given .1) (at-if1 .if1 .taken) (c .before .returned-in .ensures) in
+    rw (e, c .if2 .left) (nothing (c .before .before .before .before .before .before .before .before .before .before .before .args .out .now))
 
 returns-5 : tie.Need-returns-5
 returns-5 c =
