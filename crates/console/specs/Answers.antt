@@ -23,11 +23,8 @@ use Rattle.burning.specs.Answers.{burnTold}
 use Rattle.gas.specs.Answers.{heatTold, contentTold, specificTold, temperatureTold}
 use Rattle.marking.specs.Figures.{numbersTold}
 use Rattle.console.specs.declared.requests.Request.{Request}
-use Rattle.console.specs.declared.requests.Request.the-variants.{OfAir, Burn, OfGas, Walk, Mark, Unknown}
-use Rattle.console.specs.declared.requests.AirAsk.{AirAsk}
-use Rattle.console.specs.declared.requests.AirAsk.the-variants.{Heat as AirHeat, Psi as AirPsi, Cp as AirCp, Temperature as AirTemperature}
-use Rattle.console.specs.declared.requests.Quantity.{Quantity}
-use Rattle.console.specs.declared.requests.Quantity.the-variants.{Heat, Content, Specific, Temperature, Station}
+use Rattle.console.specs.declared.requests.OfAir.{OfAir}
+use Rattle.console.specs.declared.requests.OfGas.{OfGas}
 use Rattle.console.specs.declared.requests.GasAsk.{GasAsk}
 use Rattle.console.specs.declared.requests.GasAsk.the-variants.{Of, Refused, Misfit}
 use Rattle.console.specs.Requests.{requestOf, gasAskOf, unknownText, misfitText, returnText}
@@ -36,43 +33,56 @@ use Rattle.console.specs.Marks.{markRequest}
 use Rattle.console.specs.Walks.{walkRequest}
 
 -- air-heat and air-psi mK, air-cp K, air-temperature psi
-abbrev pub airText : AirAsk → ℤ → List ℕ
-airText AirHeat mk = readingText (airHeatTold mk)
-airText AirPsi mk = readingText (psiTold mk)
-airText AirCp kelvin = readingText (cpTold kelvin)
-airText AirTemperature psi = inverseText (psiInverseTold lookPlaces psi) (looks psiValue psi)
+abbrev pub airText : OfAir → ℤ → List ℕ
+airText OfAir.Heat mk = readingText (airHeatTold mk)
+airText OfAir.Psi mk = readingText (psiTold mk)
+airText OfAir.Cp kelvin = readingText (cpTold kelvin)
+airText OfAir.Inverse psi = inverseText (psiInverseTold lookPlaces psi) (looks psiValue psi)
 
--- what is asked of air
-abbrev pub airReply : AirAsk → Whole → List ℕ
-airReply reading (Is number) = airText reading number
-airReply reading Not = misfitText
+-- what is asked of air takes one number
+abbrev pub onOne : (ℤ → List ℕ) → Whole → List ℕ
+onOne text (Is number) = text number
+onOne text Not = misfitText
+
+abbrev pub airReply : OfAir → List (List ℕ) → List ℕ
+airReply reading fs = onOne (airText reading) (oneOf fs)
 
 -- burn A c h
 abbrev pub burnText : List (List ℕ) → List ℕ
 burnText fs = cond (isCount chargeNumbers (countAll 0 fs)) (burntText (burnTold document01 (chargeIn (valuesOf fs)))) misfitText
 
 -- gas-heat, content and specific-content A c h mK; temperature A c h target; station A c h mK, whose figures are exactly their numbers (`station-exact` of marking)
-abbrev pub gasText : Quantity → List ℕ → Charge → ℤ → List ℕ
-gasText Heat s charge mk = wholeText (heatTold document01 charge mk s)
-gasText Content s charge mk = wholeText (contentTold document01 charge mk s)
-gasText Specific s charge mk = wholeText (specificTold document01 charge mk s)
-gasText Temperature s charge target = inverseText (temperatureTold document01 charge target s lookPlaces) (looks (gasHeat document01 s (gasOf charge)) target)
-gasText Station s charge mk = stationText (numbersTold charge mk s)
+abbrev pub gasText : OfGas → List ℕ → Charge → ℤ → List ℕ
+gasText OfGas.Heat s charge mk = wholeText (heatTold document01 charge mk s)
+gasText OfGas.Content s charge mk = wholeText (contentTold document01 charge mk s)
+gasText OfGas.Specific s charge mk = wholeText (specificTold document01 charge mk s)
+gasText OfGas.Inverse s charge target = inverseText (temperatureTold document01 charge target s lookPlaces) (looks (gasHeat document01 s (gasOf charge)) target)
+gasText OfGas.Station s charge mk = stationText (numbersTold charge mk s)
 
--- what is asked of a gas
-abbrev pub gasReply : Quantity → List ℕ → GasAsk → List ℕ
-gasReply quantity s (Of charge number) = gasText quantity s charge number
-gasReply quantity s (Refused r) = refusalText r
-gasReply quantity s Misfit = misfitText
+-- what is asked of a gas takes a charge's numbers, one more, and a sheet
+abbrev pub onGas : (Charge → ℤ → List ℕ) → GasAsk → List ℕ
+onGas text (Of charge number) = text charge number
+onGas text (Refused r) = refusalText r
+onGas text Misfit = misfitText
+
+abbrev pub gasReply : OfGas → SheetAnswer → List ℕ → List (List ℕ) → List ℕ
+gasReply quantity verdict s fs = onGas (gasText quantity s) (gasAskOf fs verdict)
 
 -- the reply to a request, by its further fields
 abbrev pub replyText : SheetAnswer → List ℕ → Request → List (List ℕ) → List ℕ
-replyText verdict s (OfAir reading) fs = airReply reading (oneOf fs)
-replyText verdict s Burn fs = burnText fs
-replyText verdict s (OfGas quantity) fs = gasReply quantity s (gasAskOf fs verdict)
-replyText verdict s Walk fs = walkRequest verdict s fs
-replyText verdict s Mark fs = markRequest fs
-replyText verdict s Unknown fs = unknownText
+replyText verdict s Request.Mark fs = markRequest fs
+replyText verdict s Request.Walk fs = walkRequest verdict s fs
+replyText verdict s Request.Station fs = gasReply OfGas.Station verdict s fs
+replyText verdict s Request.Temperature fs = gasReply OfGas.Inverse verdict s fs
+replyText verdict s Request.Specific fs = gasReply OfGas.Specific verdict s fs
+replyText verdict s Request.Content fs = gasReply OfGas.Content verdict s fs
+replyText verdict s Request.GasHeat fs = gasReply OfGas.Heat verdict s fs
+replyText verdict s Request.Burn fs = burnText fs
+replyText verdict s Request.AirHeat fs = airReply OfAir.Heat fs
+replyText verdict s Request.AirTemperature fs = airReply OfAir.Inverse fs
+replyText verdict s Request.AirPsi fs = airReply OfAir.Psi fs
+replyText verdict s Request.AirCp fs = airReply OfAir.Cp fs
+replyText verdict s Request.Unknown fs = unknownText
 
 -- the answer to a line: one with a carriage return is no request; else the first field says what is asked
 abbrev pub answerFields : SheetAnswer → List ℕ → List (List ℕ) → List ℕ

@@ -14,9 +14,6 @@ use Rattle.console.specs.Limits.{startNumbers}
 use Rattle.sheet.specs.declared.SheetAnswer.{SheetAnswer}
 use Rattle.sheet.specs.declared.SheetAnswer.the-variants.{Good, Refused as SheetRefused}
 use Rattle.console.specs.declared.requests.Request.{Request}
-use Rattle.console.specs.declared.requests.Request.the-variants.{OfAir, Burn, OfGas, Walk, Mark, Unknown}
-use Rattle.console.specs.declared.requests.AirAsk.the-variants.{Heat as AirHeat, Psi as AirPsi, Cp as AirCp, Temperature as AirTemperature}
-use Rattle.console.specs.declared.requests.Quantity.the-variants.{Heat, Content, Specific, Temperature, Station}
 use Rattle.console.specs.declared.requests.GasAsk.{GasAsk}
 use Rattle.console.specs.declared.requests.GasAsk.the-variants.{Of, Refused, Misfit}
 
@@ -37,23 +34,23 @@ returnText = bytesOf "error\tthe line has a carriage return"
 -- the words that requests begin with: the most frequent first, since they are looked up in this order
 abbrev pub requests : List (Worded Request)
 requests =
-    "mark" names Mark
-    ∷ "walk" names Walk
-    ∷ "station" names OfGas Station
-    ∷ "temperature" names OfGas Temperature
-    ∷ "specific-content" names OfGas Specific
-    ∷ "content" names OfGas Content
-    ∷ "gas-heat" names OfGas Heat
-    ∷ "burn" names Burn
-    ∷ "air-heat" names OfAir AirHeat
-    ∷ "air-temperature" names OfAir AirTemperature
-    ∷ "air-psi" names OfAir AirPsi
-    ∷ "air-cp" names OfAir AirCp
+    "mark" names Request.Mark
+    ∷ "walk" names Request.Walk
+    ∷ "station" names Request.Station
+    ∷ "temperature" names Request.Temperature
+    ∷ "specific-content" names Request.Specific
+    ∷ "content" names Request.Content
+    ∷ "gas-heat" names Request.GasHeat
+    ∷ "burn" names Request.Burn
+    ∷ "air-heat" names Request.AirHeat
+    ∷ "air-temperature" names Request.AirTemperature
+    ∷ "air-psi" names Request.AirPsi
+    ∷ "air-cp" names Request.AirCp
     ∷ []
 
 -- the request of a word
 unfoldable pub requestOf : List ℕ → Request
-requestOf = namedBy requests Unknown
+requestOf = namedBy requests Request.Unknown
 
 -- a charge and a number are asked of the sheet; one that was refused when it was read tells its refusal instead
 abbrev pub askOf : Charge → ℤ → SheetAnswer → GasAsk

@@ -29,14 +29,12 @@ use Rattle.air.specs.Inverse.{unreached, found, looks}
 use Rattle.marking.specs.Figures.{numbersOf}
 use Rattle.walk.specs.Walk.{run, stepsOf, startLines, startState, walked}
 use Rattle.console.specs.declared.requests.Request.{Request}
-use Rattle.console.specs.declared.requests.Request.the-variants.{OfAir, Burn, OfGas, Walk, Mark, Unknown}
 use Rattle.console.specs.declared.requests.GasAsk.the-variants.{Misfit}
-use Rattle.console.specs.declared.requests.Quantity.{Quantity}
-use Rattle.console.specs.declared.requests.Quantity.the-variants.{Heat, Content, Specific, Temperature, Station}
+use Rattle.console.specs.declared.requests.OfGas.{OfGas}
 use Rattle.console.specs.Limits.{startNumbers}
 use Rattle.console.specs.Requests.{requestOf, askOf, gasAskOf, misfitText, returnText}
 use Rattle.wording.specs.Texts.{refusalText, toldText, foundText, valueText, wholeText, numbersText}
-use Rattle.console.specs.Answers.{gasText, gasReply, replyText, answerFields, lineText, answerOf, judgedAfter, Judged, ofList, ofText, Ready}
+use Rattle.console.specs.Answers.{gasText, onGas, gasReply, replyText, answerFields, lineText, answerOf, judgedAfter, Judged, ofList, ofText, Ready}
 use Rattle.console.specs.Walks.{walkTold, walkText, hasStart, walkOf, printedWalk}
 
 -- a sheet that was found good is accepted, whichever way
@@ -66,24 +64,24 @@ module _ (s : List ℕ) (r : Refusal) (e : paperSheet (Refused r) ≡ judgeTold 
     heat-refused : (value : ℤ) → refusalText r ≡ wholeText (first (heatOrder document01 ch n s) value)
     heat-refused = refusal-is valueText (chargeLines document01 ch ++ temperatureLines n)
 
-    gas-refused : (q : Quantity) → refusalText r ≡ gasText q s ch n
-    gas-refused Heat = heat-refused (gasHeat document01 s (gasOf ch) (up n))
-    gas-refused Content = heat-refused (contentAbove15 document01 s (gasOf ch) (up n))
-    gas-refused Specific = heat-refused (specificContent document01 s (gasOf ch) (up n))
-    gas-refused Temperature =
+    gas-refused : (q : OfGas) → refusalText r ≡ gasText q s ch n
+    gas-refused OfGas.Heat = heat-refused (gasHeat document01 s (gasOf ch) (up n))
+    gas-refused OfGas.Content = heat-refused (contentAbove15 document01 s (gasOf ch) (up n))
+    gas-refused OfGas.Specific = heat-refused (specificContent document01 s (gasOf ch) (up n))
+    gas-refused OfGas.Inverse =
         let v = gasHeat document01 s (gasOf ch) in
         refusal-is (foundText (looks v n)) ((10 when ltb lookPlaces lookPlaces ∷ chargeLines document01 ch) ++ unreached v n) (found v n)
-    gas-refused Station = refusal-is numbersText (chargeLines document01 ch ++ temperatureLines n) (numbersOf s n (gasOf ch))
+    gas-refused OfGas.Station = refusal-is numbersText (chargeLines document01 ch ++ temperatureLines n) (numbersOf s n (gasOf ch))
 
     pub walk-refused : (numbers : List ℤ) → walkTold (Refused r) s ch n numbers ≡ walkTold Good s ch n numbers
     unfolding walked
     walk-refused numbers =
         sym (stopped-by-sheet s r (startLines document01 ch n (length numbers) mostSteps mostSteps mostLooks) (run document01 s (startState ch n) (stepsOf (length numbers / stepNumbers) numbers)) e)
 
-  asked-refused : (q : Quantity) (fs : List (List ℕ)) → gasReply q s (gasAskOf fs (Refused r)) ≡ gasReply q s (gasAskOf fs Good)
+  asked-refused : (q : OfGas) (fs : List (List ℕ)) → gasReply q (Refused r) s fs ≡ gasReply q Good s fs
   asked-refused q fs = go (isCount startNumbers (countAll 0 fs)) (chargeIn (valuesOf fs)) (getD (valuesOf fs) chargeNumbers (pos 0))
     where
-      go : (t : Bool) (ch : Charge) (n : ℤ) → gasReply q s (cond t (askOf ch n (Refused r)) Misfit) ≡ gasReply q s (cond t (askOf ch n Good) Misfit)
+      go : (t : Bool) (ch : Charge) (n : ℤ) → onGas (gasText q s) (cond t (askOf ch n (Refused r)) Misfit) ≡ onGas (gasText q s) (cond t (askOf ch n Good) Misfit)
       go true ch n = gas-refused ch n q
       go false ch n = refl
 
@@ -91,12 +89,19 @@ module _ (s : List ℕ) (r : Refusal) (e : paperSheet (Refused r) ≡ judgeTold 
   walk-of-refused zs = ap walkText (walk-refused (chargeIn zs) (getD zs chargeNumbers (pos 0)) (drop startNumbers zs))
 
   reply-refused : (q : Request) (fs : List (List ℕ)) → replyText (Refused r) s q fs ≡ replyText Good s q fs
-  reply-refused (OfAir reading) fs = refl
-  reply-refused Burn fs = refl
-  reply-refused (OfGas q) fs = asked-refused q fs
-  reply-refused Walk fs = ap (λ (t : List ℕ). cond (hasStart (countAll 0 fs)) t misfitText) (walk-of-refused (valuesOf fs))
-  reply-refused Mark fs = refl
-  reply-refused Unknown fs = refl
+  reply-refused Request.Mark fs = refl
+  reply-refused Request.Walk fs = ap (λ (t : List ℕ). cond (hasStart (countAll 0 fs)) t misfitText) (walk-of-refused (valuesOf fs))
+  reply-refused Request.Station fs = asked-refused OfGas.Station fs
+  reply-refused Request.Temperature fs = asked-refused OfGas.Inverse fs
+  reply-refused Request.Specific fs = asked-refused OfGas.Specific fs
+  reply-refused Request.Content fs = asked-refused OfGas.Content fs
+  reply-refused Request.GasHeat fs = asked-refused OfGas.Heat fs
+  reply-refused Request.Burn fs = refl
+  reply-refused Request.AirHeat fs = refl
+  reply-refused Request.AirTemperature fs = refl
+  reply-refused Request.AirPsi fs = refl
+  reply-refused Request.AirCp fs = refl
+  reply-refused Request.Unknown fs = refl
 
   fields-refused : (fs : List (List ℕ)) → answerFields (Refused r) s fs ≡ answerFields Good s fs
   fields-refused [] = refl

@@ -1,9 +1,9 @@
 // The reply to each request: its numbers read, the call of the layer below, its answer put. Each function is one definition of specs/Answers.antt.
 use crate::marks;
 use crate::requests;
-use crate::requests::AirAsk;
 use crate::requests::GasAsk;
-use crate::requests::Quantity;
+use crate::requests::OfAir;
+use crate::requests::OfGas;
 use crate::requests::Request;
 use crate::walks;
 use air::Millikelvin;
@@ -22,7 +22,7 @@ ghost use Rattle.fields.specs.Fields.{fieldsFrom};
 ghost use Rattle.burning.specs.Answers.{paperBurn};
 ghost use Rattle.wording.specs.Texts.{burntText};
 ghost use Rattle.console.specs.Requests.{unknownText, misfitText, noNumberText};
-ghost use Rattle.console.specs.Answers.{Columns, Judged, Ready, airText, airReply, burnText, gasText, gasReply, replyText};
+ghost use Rattle.console.specs.Answers.{Columns, Judged, airText, airReply, burnText, gasText, gasReply, replyText};
 
 // No request begins with this word.
 fn put_unknown(out: &mut [u8], at: usize) -> usize
@@ -48,7 +48,7 @@ pub(crate) fn put_no_number(out: &mut [u8], at: usize) -> usize
 // The temperature of a psi, asked with eleven places for looks.
 fn ask_psi(target: i64, psis: &[u32; rows::ROWS], out: &mut [u8], at: usize) -> usize
     requires { ⌜ now psis ≡ rowsPsi ⌝ }
-    ensures { λ r. ⌜ Puts replyRoom (airText AirAsk.Temperature target) (now (out .entry)) at r (now (out .exit)) ⌝ }
+    ensures { λ r. ⌜ Puts replyRoom (airText OfAir.Inverse target) (now (out .entry)) at r (now (out .exit)) ⌝ }
 {
     let mut looks = [0u32; air::LOOK_PLACES];
     let answer = air::inner::psi_inverse_lent(target, &mut looks, psis);
@@ -57,7 +57,7 @@ fn ask_psi(target: i64, psis: &[u32; rows::ROWS], out: &mut [u8], at: usize) -> 
 
 // The reading of air at a number: mK, kelvins or a psi.
 fn tell_air(
-    reading: AirAsk,
+    reading: OfAir,
     number: i64,
     air: &[u32; rows::ROWS],
     psis: &[u32; rows::ROWS],
@@ -69,21 +69,22 @@ fn tell_air(
     ensures { λ r. ⌜ Puts replyRoom (airText reading number) (now (out .entry)) at r (now (out .exit)) ⌝ }
 {
     match reading {
-        AirAsk::Heat => {
+        OfAir::Heat => {
             wording::put_reading(air::inner::heat_lent(Millikelvin(number), air), out, at)
         }
-        AirAsk::Psi => {
+        OfAir::Psi => {
             wording::put_reading(air::inner::psi_lent(Millikelvin(number), psis), out, at)
         }
-        AirAsk::Cp => wording::put_reading(air::inner::cp_lent(number, cps), out, at),
-        AirAsk::Temperature => ask_psi(number, psis, out, at),
+        OfAir::Cp => wording::put_reading(air::inner::cp_lent(number, cps), out, at),
+        OfAir::Inverse => ask_psi(number, psis, out, at),
     }
 }
 
 // air-heat mK, air-psi mK, air-cp K, air-temperature psi
 fn reply_air(
-    reading: AirAsk,
-    number: Whole,
+    reading: OfAir,
+    line: &[u8],
+    from: usize,
     air: &[u32; rows::ROWS],
     psis: &[u32; rows::ROWS],
     cps: &[u32; rows::ROWS],
@@ -91,9 +92,9 @@ fn reply_air(
     at: usize,
 ) -> usize
     requires { ⌜ Columns (now air) (now psis) (now cps) ⌝ }
-    ensures { λ r. ⌜ Puts replyRoom (airReply reading number) (now (out .entry)) at r (now (out .exit)) ⌝ }
+    ensures { λ r. ⌜ Puts replyRoom (airReply reading (fieldsFrom (now (line .entry)) from)) (now (out .entry)) at r (now (out .exit)) ⌝ }
 {
-    match number {
+    match fields::read_one(line, from) {
         Whole::Is(n) => tell_air(reading, n, air, psis, cps, out, at),
         Whole::Not => put_misfit(out, at),
     }
@@ -130,7 +131,7 @@ fn ask_temperature(
     at: usize,
 ) -> usize
     requires { ⌜ Accepted (now sheet) × (now air ≡ rowsH) ⌝ }
-    ensures { λ r. ⌜ Puts replyRoom (gasText Quantity.Temperature (now (sheet .entry)) charge target) (now (out .entry)) at r (now (out .exit)) ⌝ }
+    ensures { λ r. ⌜ Puts replyRoom (gasText OfGas.Inverse (now (sheet .entry)) charge target) (now (out .entry)) at r (now (out .exit)) ⌝ }
 {
     let mut looks = [0u32; air::LOOK_PLACES];
     let answer = gas::inner::temperature_judged(charge, Heat(target), &mut looks, sheet, air);
@@ -139,7 +140,7 @@ fn ask_temperature(
 
 // What a gas tells at a number: mK, or the target of a temperature.
 fn tell_gas(
-    quantity: Quantity,
+    quantity: OfGas,
     charge: Charge,
     number: i64,
     sheet: &[u32],
@@ -152,25 +153,25 @@ fn tell_gas(
 {
     let t = Millikelvin(number);
     match quantity {
-        Quantity::Heat => {
+        OfGas::Heat => {
             wording::put_heat(
                 gas::inner::heat_judged(Above::Zero, charge, t, sheet, air),
                 out,
                 at,
             )
         }
-        Quantity::Content => {
+        OfGas::Content => {
             wording::put_heat(
                 gas::inner::heat_judged(Above::Fifteen, charge, t, sheet, air),
                 out,
                 at,
             )
         }
-        Quantity::Specific => {
+        OfGas::Specific => {
             wording::put_specific(gas::inner::specific_judged(charge, t, sheet, air), out, at)
         }
-        Quantity::Temperature => ask_temperature(charge, number, sheet, air, out, at),
-        Quantity::Station => {
+        OfGas::Inverse => ask_temperature(charge, number, sheet, air, out, at),
+        OfGas::Station => {
             wording::put_station(
                 marking::inner::station_judged(charge, t, sheet, air),
                 out,
@@ -182,17 +183,19 @@ fn tell_gas(
 
 // gas-heat, content, specific-content and station A c h mK, temperature A c h target
 fn reply_gas(
-    quantity: Quantity,
-    asked: GasAsk,
+    quantity: OfGas,
+    line: &[u8],
+    from: usize,
+    verdict: SheetAnswer,
     sheet: &[u32],
     air: &[u32; rows::ROWS],
     out: &mut [u8],
     at: usize,
 ) -> usize
-    requires { ⌜ Ready asked (now sheet) × (now air ≡ rowsH) ⌝ }
-    ensures { λ r. ⌜ Puts replyRoom (gasReply quantity (now (sheet .entry)) asked) (now (out .entry)) at r (now (out .exit)) ⌝ }
+    requires { ⌜ Judged verdict (now sheet) × (now air ≡ rowsH) ⌝ }
+    ensures { λ r. ⌜ Puts replyRoom (gasReply quantity verdict (now (sheet .entry)) (fieldsFrom (now (line .entry)) from)) (now (out .entry)) at r (now (out .exit)) ⌝ }
 {
-    match asked {
+    match requests::gas_ask_of(line, from, verdict) {
         GasAsk::Of(charge, number) => tell_gas(quantity, charge, number, sheet, air, out, at),
         GasAsk::Refused(refusal) => wording::put_refusal(refusal, out, at),
         GasAsk::Misfit => put_misfit(out, at),
@@ -216,17 +219,18 @@ pub(crate) fn reply(
     ensures { λ r. ⌜ Puts replyRoom (replyText verdict (now (sheet .entry)) request (fieldsFrom (now (line .entry)) from)) (now (out .entry)) at r (now (out .exit)) ⌝ }
 {
     match request {
-        Request::OfAir(reading) => {
-            let number = fields::read_one(line, from);
-            reply_air(reading, number, air, psis, cps, out, at)
-        }
-        Request::Burn => reply_burn(line, from, out, at),
-        Request::OfGas(quantity) => {
-            let asked = requests::gas_ask_of(line, from, verdict);
-            reply_gas(quantity, asked, sheet, air, out, at)
-        }
-        Request::Walk => walks::reply_walk(line, from, verdict, sheet, air, out, at),
         Request::Mark => marks::reply_mark(line, from, out, at),
+        Request::Walk => walks::reply_walk(line, from, verdict, sheet, air, out, at),
+        Request::Station => reply_gas(OfGas::Station, line, from, verdict, sheet, air, out, at),
+        Request::Temperature => reply_gas(OfGas::Inverse, line, from, verdict, sheet, air, out, at),
+        Request::Specific => reply_gas(OfGas::Specific, line, from, verdict, sheet, air, out, at),
+        Request::Content => reply_gas(OfGas::Content, line, from, verdict, sheet, air, out, at),
+        Request::GasHeat => reply_gas(OfGas::Heat, line, from, verdict, sheet, air, out, at),
+        Request::Burn => reply_burn(line, from, out, at),
+        Request::AirHeat => reply_air(OfAir::Heat, line, from, air, psis, cps, out, at),
+        Request::AirTemperature => reply_air(OfAir::Inverse, line, from, air, psis, cps, out, at),
+        Request::AirPsi => reply_air(OfAir::Psi, line, from, air, psis, cps, out, at),
+        Request::AirCp => reply_air(OfAir::Cp, line, from, air, psis, cps, out, at),
         Request::Unknown => put_unknown(out, at),
     }
 }

@@ -9,30 +9,37 @@ ghost use Rattle.fields.specs.Words.{positionOf, wordsIn, namedAt, NoneBelow};
 ghost use Rattle.fields.specs.Fields.{fieldsFrom};
 ghost use Rattle.console.specs.Requests.{requests, requestOf, gasAskOf};
 
-// What a line asks for.
+// What a line asks for, in the order of the table of words.
 pub enum Request {
-    OfAir(AirAsk),
-    Burn,
-    OfGas(Quantity),
-    Walk,
     Mark,
+    Walk,
+    Station,
+    Temperature,
+    Specific,
+    Content,
+    GasHeat,
+    Burn,
+    AirHeat,
+    AirTemperature,
+    AirPsi,
+    AirCp,
     Unknown,
 }
 
 // What is asked of air, by one number.
-pub enum AirAsk {
+pub enum OfAir {
     Heat,
     Psi,
     Cp,
-    Temperature,
+    Inverse,
 }
 
-// What is asked of a gas over a sheet, by four numbers.
-pub enum Quantity {
+// What is asked of a gas over a sheet, by a charge's numbers and one more.
+pub enum OfGas {
     Heat,
     Content,
     Specific,
-    Temperature,
+    Inverse,
     Station,
 }
 
@@ -72,16 +79,16 @@ fn request_at(p: usize) -> Request
     match p {
         0 => Request::Mark,
         1 => Request::Walk,
-        2 => Request::OfGas(Quantity::Station),
-        3 => Request::OfGas(Quantity::Temperature),
-        4 => Request::OfGas(Quantity::Specific),
-        5 => Request::OfGas(Quantity::Content),
-        6 => Request::OfGas(Quantity::Heat),
+        2 => Request::Station,
+        3 => Request::Temperature,
+        4 => Request::Specific,
+        5 => Request::Content,
+        6 => Request::GasHeat,
         7 => Request::Burn,
-        8 => Request::OfAir(AirAsk::Heat),
-        9 => Request::OfAir(AirAsk::Temperature),
-        10 => Request::OfAir(AirAsk::Psi),
-        11 => Request::OfAir(AirAsk::Cp),
+        8 => Request::AirHeat,
+        9 => Request::AirTemperature,
+        10 => Request::AirPsi,
+        11 => Request::AirCp,
         _ => unnamed(p),
     }
 }
