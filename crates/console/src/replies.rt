@@ -154,29 +154,20 @@ fn tell_gas(
     let t = Millikelvin(number);
     match quantity {
         OfGas::Heat => {
-            wording::put_heat(
-                gas::inner::heat_judged(Above::Zero, charge, t, sheet, air),
-                out,
-                at,
-            )
+            let heat = gas::inner::heat_judged(Above::Zero, charge, t, sheet, air);
+            wording::put_heat(heat, out, at)
         }
         OfGas::Content => {
-            wording::put_heat(
-                gas::inner::heat_judged(Above::Fifteen, charge, t, sheet, air),
-                out,
-                at,
-            )
+            let content = gas::inner::heat_judged(Above::Fifteen, charge, t, sheet, air);
+            wording::put_heat(content, out, at)
         }
         OfGas::Specific => {
             wording::put_specific(gas::inner::specific_judged(charge, t, sheet, air), out, at)
         }
         OfGas::Inverse => ask_temperature(charge, number, sheet, air, out, at),
         OfGas::Station => {
-            wording::put_station(
-                marking::inner::station_judged(charge, t, sheet, air),
-                out,
-                at,
-            )
+            let station = marking::inner::station_judged(charge, t, sheet, air);
+            wording::put_station(station, out, at)
         }
     }
 }

@@ -85,12 +85,8 @@ fn answer_lines(
             Line::Of(held) => {
                 output = answer_held(held, line, verdict, sheet, air, psis, cps, out, output);
             }
-            Line::End => {
-                turns = 0;
-            }
-            Line::Unread => {
-                turns = 0;
-            }
+            Line::End => turns = 0,
+            Line::Unread => turns = 0,
         }
     }
 }

@@ -47,34 +47,11 @@ fn halve(
         h2o,
     };
     let heat = heats::at_kelvin(gas, m, *sheet, air);
+    let next = at + 1;
     if heat.0 <= target.0 {
-        halve(
-            m,
-            hi,
-            target,
-            looks,
-            at + 1,
-            mass,
-            used,
-            co2,
-            h2o,
-            sheet,
-            air,
-        )
+        halve(m, hi, target, looks, next, mass, used, co2, h2o, sheet, air)
     } else {
-        halve(
-            lo,
-            m,
-            target,
-            looks,
-            at + 1,
-            mass,
-            used,
-            co2,
-            h2o,
-            sheet,
-            air,
-        )
+        halve(lo, m, target, looks, next, mass, used, co2, h2o, sheet, air)
     }
 }
 

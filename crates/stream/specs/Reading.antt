@@ -20,9 +20,16 @@ use Rattle.stream.specs.declared.Text.{Text}
 use Rattle.stream.specs.declared.Text.the-variants.{Bytes as TextBytes, Unread as TextUnread}
 use Rattle.stream.specs.Taking.{Inside}
 
--- an input of which nothing is read, and one that has ended
+-- a piece of n bytes of which none is taken; an input of which nothing is read
+abbrev pub pieceOf : ℕ → Reader
+pieceOf n = record { from = 0; end = n; ended = false }
+
 abbrev pub nothingRead : Reader
-nothingRead = record { from = 0; end = 0; ended = false }
+nothingRead = pieceOf 0
+
+-- a line that ended, with the input from the next on; no further line of an input
+abbrev pub takenWith : Held → ℕ → Reader → Output → Next
+takenWith held next reader output = record { line = Of held; reader = record { from = next; end = reader .end; ended = reader .ended }; output = output }
 
 abbrev pub overWith : Line → Output → Next
 overWith line output = record { line = line; reader = record { from = 0; end = 0; ended = true }; output = output }

@@ -4,7 +4,7 @@ ghost use mathlib.Core.Path.{_≡_};
 ghost use Prim.Native.Nat.{_≤_};
 ghost use lib.ListN.{length};
 ghost use Rattle.stream.specs.Taking.{pushed, Takes, Inside};
-ghost use Rattle.stream.specs.Reading.{nothingRead, Reads, lastLine, overWith, Filled};
+ghost use Rattle.stream.specs.Reading.{pieceOf, nothingRead, Reads, lastLine, takenWith, overWith, Filled};
 ghost use Rattle.stream.specs.Writing.{outcomeOf, Within, afterWrite, Flushed, Roomed, Free, Leaves};
 use libc::EAGAIN;
 use libc::EINTR;
@@ -222,15 +222,22 @@ pub struct Next {
     pub output: Output,
 }
 
+// A piece of n bytes of which none is taken.
+fn piece_of(n: usize) -> Reader
+    ensures { λ r. ⌜ r ≡ pieceOf n ⌝ }
+{
+    Reader {
+        from: 0,
+        end: n,
+        ended: false,
+    }
+}
+
 // An input of which nothing is read.
 pub fn unread() -> Reader
     ensures { λ r. ⌜ r ≡ nothingRead ⌝ }
 {
-    Reader {
-        from: 0,
-        end: 0,
-        ended: false,
-    }
+    piece_of(0)
 }
 
 // Reads the next piece; none after the input's end, nor where the output is closed.
@@ -253,6 +260,23 @@ fn last_line(held: Held) -> Line
     match held {
         Held::Bytes(n) => if n == 0 { Line::End } else { Line::Of(held) },
         Held::Over => Line::Of(held),
+    }
+}
+
+// A line that ended, with the input from the next on.
+fn taken_with(held: Held, next: usize, reader: Reader, output: Output) -> Next
+    ensures { λ r. ⌜ r ≡ takenWith held next reader output ⌝ }
+{
+    let line = Line::Of(held);
+    let reader = Reader {
+        from: next,
+        end: reader.end,
+        ended: reader.ended,
+    };
+    Next {
+        line,
+        reader,
+        output,
     }
 }
 
@@ -296,33 +320,13 @@ pub fn next_line(
         let taken = take_line(held, &piece[..end], reader.from, line);
         held = taken.held;
         if taken.whole {
-            reader = Reader {
-                from: taken.next,
-                end,
-                ended,
-            };
-            let line = Line::Of(held);
-            return Next {
-                line,
-                reader,
-                output,
-            };
+            return taken_with(held, taken.next, reader, output);
         }
         output = flush(out, output);
         match read_next(fd, what, piece, ended, output) {
-            Got::Bytes(n) => {
-                reader = Reader {
-                    from: 0,
-                    end: n,
-                    ended: false,
-                };
-            }
-            Got::End => {
-                return over(last_line(held), output);
-            }
-            Got::Failed => {
-                return over(Line::Unread, output);
-            }
+            Got::Bytes(n) => reader = piece_of(n),
+            Got::End => return over(last_line(held), output),
+            Got::Failed => return over(Line::Unread, output),
         }
     }
     over(Line::Unread, output)

@@ -37,6 +37,9 @@ slice-aggregate-take-line c = simp length-take (omega arith)
 take-line-requires : tie.Need-take-line-requires Inv-loop μ-loop
 take-line-requires c κs = search needs
 
+taken-with-requires : tie.Need-taken-with-requires Inv-loop μ-loop
+taken-with-requires c κs = search needs
+
 same-length : tie.Need-same-length Inv-loop μ-loop
 same-length c = search needs
 
@@ -44,7 +47,9 @@ same-length-2 : tie.Need-same-length-2 Inv-loop μ-loop
 same-length-2 c = search needs
 
 returns : tie.Need-returns Inv-loop μ-loop
-returns c = search needs
+returns c =
+    let at-loop = c .before .before .before .before .before .before .before .before in
+    rw (c .taken-with .ensures) (at-loop .loop .inv .2, at-loop .loop .inv .3)
 
 flush-requires : tie.Need-flush-requires Inv-loop μ-loop
 flush-requires c κs = search needs
@@ -55,18 +60,22 @@ read-next-requires c κs = search needs
 enum-known-n : tie.Need-enum-known-n Inv-loop μ-loop
 enum-known-n c = search needs
 
+piece-of-requires : tie.Need-piece-of-requires Inv-loop μ-loop
+piece-of-requires c κs = search needs
+
 loop-less : tie.Need-loop-less Inv-loop μ-loop
 loop-less c = search needs
 
 loop-again : tie.Need-loop-again Inv-loop μ-loop
 loop-again c =
-    let at-read = c .before .before .before .before .before in
+    let at-n = c .before .before in
+    let at-read = at-n .before .before .before .before in
     let at-flush = at-read .before .before in
     let at-loop = at-flush .before .before .before .before .before .before .before .before in
-    let h : c .before .n .given .0 .0 ≤ length (at-read .read-next .last .1 .1 .0) =
-    subst (λ (g : Got). Inside g (at-read .read-next .last .1 .1 .0)) (c .before .n .given .1)
+    let h : at-n .n .given .0 .0 ≤ length (at-read .read-next .last .1 .1 .0) =
+    subst (λ (g : Got). Inside g (at-read .read-next .last .1 .1 .0)) (at-n .n .given .1)
     (reads-inside (at-loop .loop .reader .ended) (at-flush .flush .result) (at-loop .loop .piece) (at-read .read-next .result) (at-read .read-next .last .1 .1 .0) (at-read .read-next .ensures)) in
-    (search needs, search needs, omega arith, leaves-flushed (at-loop .loop .inv .3) (at-flush .flush .ensures))
+    (search needs, search needs, rw (c .piece-of .ensures) (omega arith), leaves-flushed (at-loop .loop .inv .3) (at-flush .flush .ensures))
 
 enum-told : tie.Need-enum-told Inv-loop μ-loop
 enum-told c = search needs
@@ -123,6 +132,6 @@ returns-4 c = rw (c .over3 .ensures) (omega arith, c .before .before .loop .inv 
 
 pub next-line-spec : {M : Type 1} → statement M
 next-line-spec =
-    tie.close (tie.spec Inv-loop μ-loop loop-holds sub-turns slice-reshare-prefix-take-line slice-aggregate-take-line take-line-requires same-length same-length-2 returns
-    flush-requires read-next-requires enum-known-n loop-less loop-again enum-told last-line-requires over-requires same-length-3 same-length-4 returns-2 enum-told-2
-    over-requires-2 same-length-5 same-length-6 returns-3 over-requires-3 same-length-7 same-length-8 returns-4)
+    tie.close (tie.spec Inv-loop μ-loop loop-holds sub-turns slice-reshare-prefix-take-line slice-aggregate-take-line take-line-requires taken-with-requires same-length
+    same-length-2 returns flush-requires read-next-requires enum-known-n piece-of-requires loop-less loop-again enum-told last-line-requires over-requires same-length-3
+    same-length-4 returns-2 enum-told-2 over-requires-2 same-length-5 same-length-6 returns-3 over-requires-3 same-length-7 same-length-8 returns-4)

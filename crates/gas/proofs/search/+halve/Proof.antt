@@ -91,9 +91,9 @@ halve-at-kelvin-requires t c κs =
     let s = c .before .before in
     (rw (back (used-fits t s)) (s .pre .1 .0 .3), omega (arith, s .pre .1 .0 .0), omega (arith, s .pre .1 .0 .2))
 
-halve-add-halve : (t : ℕ) → halve-lts.Need-add-halve (at-kelvin-reads.Asked, at-kelvin-reads.Learnt, halve-below t, halve.Post) (halve-at t) halve.Post
-halve-add-halve t c =
-    let at-if1 = c .before .before .before .before .before .before .before .before in
+halve-add-next : (t : ℕ) → halve-lts.Need-add-next (at-kelvin-reads.Asked, at-kelvin-reads.Learnt, halve-below t, halve.Post) (halve-at t) halve.Post
+halve-add-next t c =
+    let at-if1 = c .before .before in
     let s = at-if1 .before in omega (arith, s .pre .1 .1 .0, room-first (at-if1 .if1 .left) (s .pre .1 .1 .1))
 
 halve-halve-requires : (t : ℕ) → halve-lts.Need-halve-requires (at-kelvin-reads.Asked, at-kelvin-reads.Learnt, halve-below t, halve.Post) (halve-at t) halve.Post
@@ -106,11 +106,6 @@ halve-halve-requires t c κs =
         (length-set (s .args .looks .now) _ _ ∙ s .pre .1 .1 .0, rw (back (used-fits t s)) (room-next (look-upper t (c .before)) (s .pre .1 .1 .1))),
       ),
     )
-
-halve-add-halve-2 : (t : ℕ) → halve-lts.Need-add-halve-2 (at-kelvin-reads.Asked, at-kelvin-reads.Learnt, halve-below t, halve.Post) (halve-at t) halve.Post
-halve-add-halve-2 t c =
-    let at-if1 = c .before .before .before .before .before .before .before .before in
-    let s = at-if1 .before in omega (arith, s .pre .1 .1 .0, room-first (at-if1 .if1 .left) (s .pre .1 .1 .1))
 
 halve-halve-requires-2 : (t : ℕ) → halve-lts.Need-halve-requires-2 (at-kelvin-reads.Asked, at-kelvin-reads.Learnt, halve-below t, halve.Post) (halve-at t) halve.Post
 halve-halve-requires-2 t c κs =
@@ -142,9 +137,8 @@ pub +halve-spec : {M : Type 1} → statement M
     (halve-mul-looks t)
     (halve-element-write-looks t)
     (halve-at-kelvin-requires t)
-    (halve-add-halve t)
+    (halve-add-next t)
     (halve-halve-requires t)
-    (halve-add-halve-2 t)
     (halve-halve-requires-2 t)
     (halve-returns-2 t)
     (halve-returns-3 t)
