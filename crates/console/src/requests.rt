@@ -26,7 +26,7 @@ pub enum Request {
     Unknown,
 }
 
-// What is asked of air, by one number.
+// What is asked of air, by one number: mK, kelvins, or the psi whose temperature is asked (`Inverse`).
 pub enum OfAir {
     Heat,
     Psi,
@@ -34,7 +34,7 @@ pub enum OfAir {
     Inverse,
 }
 
-// What is asked of a gas over a sheet, by a charge's numbers and one more.
+// What is asked of a gas over a sheet, by a charge's numbers and one more: mK, or the heat whose temperature is asked (`Inverse`).
 pub enum OfGas {
     Heat,
     Content,
