@@ -2,3 +2,4 @@
 pub mod Reading
 pub mod StepRule
 pub mod Copied
+pub mod Written

@@ -4,9 +4,12 @@ use mathlib.Core.List.{List, [], _∷_}
 use Prim.Native.Nat.{ℕ}
 use Rattle.refusal.specs.Refusals.{_when_, _at-place_when_, Demand1}
 use Rattle.refusal.specs.RefusalsLaws.{demand-1}
+use Rattle.sheet_text.specs.Text.{textLength}
 use Rattle.sheet.specs.declared.SheetAnswer.{SheetAnswer}
+use Rattle.sheet.specs.declared.WriteAnswer.{WriteAnswer}
 use Rattle.sheet.specs.Sheet.{notLong}
 use Rattle.sheet.specs.Answers.{paperSheet, breaks, badRowOf, SheetRead, sheetLines, judgeTold}
+use Rattle.sheet.specs.Writing.{paperWrite, writeLines, SheetWritten}
 
 -- the text's own form: whether it breaks its form, and its first bad row
 pub demand-1-read_sheet : {text before later : List ℕ} {a : SheetAnswer} (h : SheetRead text before a later)
@@ -15,3 +18,6 @@ demand-1-read_sheet h = demand-1 _ _ (h .told)
 
 pub demand-1-judge_sheet : (s : List ℕ) (a : SheetAnswer) → paperSheet a ≡ judgeTold s → Demand1 (sheetLines s) tt (paperSheet a)
 demand-1-judge_sheet s a e = demand-1 _ _ e
+
+pub demand-1-write_sheet : {s before later : List ℕ} {a : WriteAnswer} → SheetWritten s before a later → Demand1 (writeLines s before) (textLength s) (paperWrite a)
+demand-1-write_sheet h = demand-1 _ _ (h .told)

@@ -1,11 +1,12 @@
 -- Acceptance is not empty, and its step rule is sharp: flat sheets are accepted; a sheet whose O2 rises by exactly four times air is accepted, and with one more
 -- at one row is refused with that row. Assumes nothing.
 use mathlib.Core.Path.{_≡_, refl, sym, _∙_, ap, subst}
-use mathlib.Core.Bool.{true, false, or-true}
+use mathlib.Core.Bool.{Bool, true, false, or-true}
 use mathlib.Core.Logic.{⊎-elim}
-use Prim.Native.Nat.{ℕ, zero, suc, _+_, _*_, _-_, _≤_, _<_}
+use Prim.Native.Nat.{ℕ, zero, suc, _+_, _*_, _-_, _/_, _%_, _≤_, _<_}
 use native.Mathlib.Nat.{eq-or-lt-of-le, le-refl, le-of-lt, lt-trans}
 use native.Mathlib.Omega.{arith}
+use lib.Dec.{eqb}
 use lib.ListN.{length, getD}
 use borrow.Author.Tests.{eq-eqb, ne-eqb}
 use Rattle.refusal.specs.Refusals.{refusesAt}
@@ -13,10 +14,11 @@ use Rattle.rows.specs.Limits.{firstKelvin, lastKelvin, tableRows}
 use Rattle.rows.specs.Table.{airH}
 use Rattle.rows.specs.TableLaws.{H-grows, H-most, H-first}
 use Rattle.sheet_text.specs.Limits.{mostFigure, sheetNumbers}
+use Rattle.sheet_text.specs.Text.{Numbers}
 use Rattle.sheet.specs.Answers.{judgeTold}
 use Rattle.sheet.specs.AnswersLaws.{told-row}
 use Rattle.sheet.specs.Sheet.{o2, co2, h2o, overLimit, rise, breaksStep, badRow, Accepted}
-use Rattle.sheet.specs.SheetLaws.{first-bad-found, over-no, step-kept, steep-breaks}
+use Rattle.sheet.specs.SheetLaws.{first-bad-found, InLimit, over-no, step-kept, steep-breaks, limit-numbers}
 use Rattle.sheet.specs.ExampleSheets.{laidFrom, laid, level, flat, steepest, oneMore}
 use Rattle.rows.specs.GrowthLaws.{grows}
 
@@ -63,12 +65,15 @@ pub record Steady (gas : ℕ → ℕ → ℕ) (k : ℕ) : Type 0 where
 pub record Small (gas : ℕ → ℕ → ℕ) (k : ℕ) : Type 0 where
   pub most : (j : ℕ) → j < 3 → gas j k ≤ mostFigure
 
-small-no : (gas : ℕ → ℕ → ℕ) (k : ℕ) → firstKelvin ≤ k → k ≤ lastKelvin → Small gas k → overLimit (laid gas) k ≡ false
-small-no gas k l u h = over-no (laid gas) k record {
+small-limit : (gas : ℕ → ℕ → ℕ) (k : ℕ) → firstKelvin ≤ k → k ≤ lastKelvin → Small gas k → InLimit (laid gas) k
+small-limit gas k l u h = record {
   o2-most = rw (laid-o2 gas k l u) (h .most 0 (omega arith));
   co2-most = rw (laid-co2 gas k l u) (h .most 1 (omega arith));
   h2o-most = rw (laid-h2o gas k l u) (h .most 2 (omega arith));
 }
+
+small-no : (gas : ℕ → ℕ → ℕ) (k : ℕ) → firstKelvin ≤ k → k ≤ lastKelvin → Small gas k → overLimit (laid gas) k ≡ false
+small-no gas k l u h = over-no (laid gas) k (small-limit gas k l u h)
 
 steady-no : (gas : ℕ → ℕ → ℕ) (k : ℕ) → firstKelvin ≤ k → k < lastKelvin → Steady gas k → breaksStep (laid gas) k ≡ false
 steady-no gas k l u h = step-kept (laid gas) k record {
@@ -90,6 +95,10 @@ laid-long : (gas : ℕ → ℕ → ℕ) → length (laid gas) ≡ sheetNumbers
 unfolding laid
 laid-long gas = laid-length gas tableRows firstKelvin
 
+-- a sheet's numbers, accepted or not
+pub laid-numbers : (gas : ℕ → ℕ → ℕ) → ((k : ℕ) → firstKelvin ≤ k → k ≤ lastKelvin → Small gas k) → Numbers (laid gas)
+laid-numbers gas f = limit-numbers (laid-long gas) (λ k l u. small-limit gas k l u (f k l u))
+
 pub laid-accepted : (gas : ℕ → ℕ → ℕ) → ((k : ℕ) → firstKelvin ≤ k → k ≤ lastKelvin → Small gas k) → ((k : ℕ) → firstKelvin ≤ k → k < lastKelvin → Steady gas k) → Accepted (laid gas)
 laid-accepted gas f g = record { long = laid-long gas; noBadRow = λ r h. row-good gas r h (λ k l u. f k l (omega arith)) (λ k l u. g k l (omega arith)) }
 
@@ -109,6 +118,18 @@ flat-accepted a b c p q r =
     laid-accepted (level a b c)
     (λ k l u. record { most = λ j h. level-most a b c j k mostFigure p q r })
     (λ k l u. record { climbs = λ j h. level-up a b c j k (suc k); slow = omega arith })
+
+-- its figures
+level-same : (a j k : ℕ) → level a a a j k ≡ a
+level-same a zero k = refl
+level-same a (suc zero) k = refl
+level-same a (suc (suc j)) k = refl
+
+pub flat-figure : (a i : ℕ) → i < sheetNumbers → getD (flat a a a) i 0 ≡ a
+unfolding laid
+flat-figure a i h =
+    let e : i ≡ 3 * (i / 3) + i % 3 = omega arith in
+    rw e (laid-at (level a a a) tableRows firstKelvin (i / 3) (i % 3) (omega arith) (omega arith) ∙ level-same a (i % 3) (firstKelvin + i / 3))
 
 -- ---- four times air
 air-from : (k : ℕ) → firstKelvin ≤ k → k ≤ lastKelvin → airH firstKelvin ≤ airH k
@@ -164,6 +185,18 @@ module _ (m : ℕ) (l : firstKelvin < m) (u : m ≤ lastKelvin) where
   row-bad : (r : ℕ) → firstKelvin + r ≡ m → badRow (laid (oneMore m)) r ≡ true
   row-bad zero e = absurd (omega arith)
   row-bad (suc r) e = let t = too-steep (firstKelvin + r) (omega arith) in rw t (or-true (overLimit (laid (oneMore m)) (firstKelvin + suc r)))
+
+  more-small : (k : ℕ) → Small (oneMore m) k
+  more-small k = record { most = most (eqb k m) refl }
+    where
+      most : (t : Bool) → eqb k m ≡ t → (j : ℕ) → j < 3 → oneMore m j k ≤ mostFigure
+      most true e zero h = rw e (omega (arith, H-most k, H-first))
+      most false e zero h = rw e (omega (arith, H-most k, H-first))
+      most t e (suc j) h = omega arith
+
+  -- its text has the form of a sheet
+  pub one-more-numbers : Numbers (laid (oneMore m))
+  one-more-numbers = laid-numbers (oneMore m) (λ k a b. more-small k)
 
   pub one-more-refused : judgeTold (laid (oneMore m)) ≡ refusesAt 3 (m - firstKelvin)
   one-more-refused =

@@ -3,10 +3,12 @@ use mathlib.Core.Path.{_≡_, refl, sym, _∙_, ap, ap₂}
 use mathlib.Core.List.{List}
 use Prim.Native.Nat.{ℕ}
 use Rattle.refusal.specs.Refusals.{Told, gives, refused}
+use Rattle.refusal.specs.RefusalsLaws.{one-told}
 use Rattle.sheet.specs.declared.SheetAnswer.{SheetAnswer}
 use Rattle.sheet.specs.declared.SheetAnswer.the-variants.{Good, Refused}
+use Rattle.sheet.specs.declared.WriteAnswer.{WriteAnswer}
 use Rattle.sheet.specs.Answers.{paperSheet, readTold, listAfter, SheetRead, judgeTold}
-use Rattle.sheet_text.specs.Machine.{after}
+use Rattle.sheet.specs.Writing.{paperWrite, SheetWritten}
 use Rattle.sheet.specs.FormLaws.{one-form}
 
 -- the answer of what it tells
@@ -32,3 +34,19 @@ one-read_sheet {text} {before} {later} {after} {a} {b} p q =
 -- the judge of a list
 pub one-judge_sheet : (s : List ℕ) (a b : SheetAnswer) → paperSheet a ≡ judgeTold s → paperSheet b ≡ judgeTold s → a ≡ b
 one-judge_sheet s a b p q = one-answer a b (p ∙ sym q)
+
+-- the writer
+writeAnswerOf : Told ℕ → WriteAnswer
+writeAnswerOf (gives n) = WriteAnswer.Written n
+writeAnswerOf (refused r) = WriteAnswer.Refused r
+
+write-back : (a : WriteAnswer) → writeAnswerOf (paperWrite a) ≡ a
+unfolding writeAnswerOf
+write-back (WriteAnswer.Written n) = refl
+write-back (WriteAnswer.Refused r) = refl
+
+pub one-written : {t : Told ℕ} (a b : WriteAnswer) → paperWrite a ≡ t → paperWrite b ≡ t → a ≡ b
+one-written = one-told paperWrite writeAnswerOf write-back
+
+pub one-write_sheet : {s before later after : List ℕ} {a b : WriteAnswer} → SheetWritten s before a later → SheetWritten s before b after → (a ≡ b) × (later ≡ after)
+one-write_sheet {a = a} {b = b} p q = (one-written a b (p .told) (q .told), p .buffer ∙ sym (q .buffer))

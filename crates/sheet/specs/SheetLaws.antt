@@ -8,7 +8,7 @@ use native.Mathlib.Nat.{eq-or-lt-of-le}
 use native.Mathlib.Decide.{decLt}
 use native.Mathlib.Omega.{arith}
 use lib.Dec.{ltb}
-use lib.ListN.{getD, List·getD-eq-default}
+use lib.ListN.{length, getD, List·getD-eq-default}
 use borrow.Author.Tests.{ltb-false, lt-ltb, le-ltb}
 use Rattle.rows.specs.Limits.{firstKelvin, lastKelvin, tableRows}
 use Rattle.rows.specs.Table.{airH}
@@ -130,18 +130,41 @@ module _ {s : List ℕ} (a : Accepted s) where
   pub h2o-never-falls : NeverFalls (h2o s)
   h2o-never-falls = record { step = λ k l u. accepted-step a k l u .h2o-up }
 
--- every number of an accepted sheet is at most 200,000
-module _ {s : List ℕ} (a : Accepted s) where
+-- a list whose values are at most 200,000 at every kelvin is a sheet's numbers
+module _ {s : List ℕ} (long : length s ≡ sheetNumbers) (limit : (k : ℕ) → firstKelvin ≤ k → k ≤ lastKelvin → InLimit s k) where
   place-small : (i j : ℕ) → i < sheetNumbers → i ≡ 3 * (i / 3) + j → j < 3 → getD s i 0 ≤ mostFigure
   unfolding o2 co2 h2o
-  place-small i zero h e g = let q : 3 * (firstKelvin + i / 3 - firstKelvin) ≡ i = omega arith in rw q at (accepted-limit a (firstKelvin + i / 3) (omega arith) (omega arith) .o2-most)
-  place-small i (suc zero) h e g = let q : 3 * (firstKelvin + i / 3 - firstKelvin) + 1 ≡ i = omega arith in rw q at (accepted-limit a (firstKelvin + i / 3) (omega arith) (omega arith) .co2-most)
-  place-small i (suc (suc zero)) h e g = let q : 3 * (firstKelvin + i / 3 - firstKelvin) + 2 ≡ i = omega arith in rw q at (accepted-limit a (firstKelvin + i / 3) (omega arith) (omega arith) .h2o-most)
+  place-small i zero h e g = let q : 3 * (firstKelvin + i / 3 - firstKelvin) ≡ i = omega arith in rw q at (limit (firstKelvin + i / 3) (omega arith) (omega arith) .o2-most)
+  place-small i (suc zero) h e g = let q : 3 * (firstKelvin + i / 3 - firstKelvin) + 1 ≡ i = omega arith in rw q at (limit (firstKelvin + i / 3) (omega arith) (omega arith) .co2-most)
+  place-small i (suc (suc zero)) h e g = let q : 3 * (firstKelvin + i / 3 - firstKelvin) + 2 ≡ i = omega arith in rw q at (limit (firstKelvin + i / 3) (omega arith) (omega arith) .h2o-most)
   place-small i (suc (suc (suc j))) h e g = absurd (omega arith)
 
-  pub accepted-numbers : Numbers s
-  accepted-numbers = record { full = a .long; small = λ i. small i (decLt i sheetNumbers) }
+  pub limit-numbers : Numbers s
+  limit-numbers = record { full = long; small = λ i. small i (decLt i sheetNumbers) }
     where
       small : (i : ℕ) → Dec (i < sheetNumbers) → getD s i 0 ≤ mostFigure
       small i (yes h) = place-small i (i % 3) h (omega arith) (omega arith)
-      small i (no h) = rw (List·getD-eq-default s 0 {n = i} (omega (arith, a .long))) (omega arith)
+      small i (no h) = rw (List·getD-eq-default s 0 {n = i} (omega arith)) (omega arith)
+
+pub accepted-numbers : {s : List ℕ} → Accepted s → Numbers s
+accepted-numbers a = limit-numbers (a .long) (accepted-limit a)
+
+-- and accepted where it keeps the step rule from each kelvin to the next
+pub record KeepsStepRule (s : List ℕ) : Type 0 where
+  pub kept : (k : ℕ) → firstKelvin ≤ k → k < lastKelvin → breaksStep s k ≡ false
+
+module _ {s : List ℕ} (g : Numbers s) where
+  numbers-limit : (k : ℕ) → InLimit s k
+  unfolding o2 co2 h2o
+  numbers-limit k = record {
+    o2-most = g .small (3 * (k - firstKelvin));
+    co2-most = g .small (3 * (k - firstKelvin) + 1);
+    h2o-most = g .small (3 * (k - firstKelvin) + 2);
+  }
+
+  good-row : KeepsStepRule s → (r : ℕ) → r < tableRows → badRow s r ≡ false
+  good-row keeps zero h = over-no s firstKelvin (numbers-limit firstKelvin)
+  good-row keeps (suc r) h = rw (over-no s (firstKelvin + suc r) (numbers-limit (firstKelvin + suc r)), keeps .kept (firstKelvin + r) (omega arith) (omega arith)) refl
+
+  pub accepted-of-rule : KeepsStepRule s → Accepted s
+  accepted-of-rule keeps = record { long = g .full; noBadRow = good-row keeps }

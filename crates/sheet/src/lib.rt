@@ -1,16 +1,26 @@
-// The gas sheet (document 01, "The gas sheet"): its text read into a list, and a list judged before it is used.
-// Every call takes every input. What an answer tells, in the paper's numbers (`paper` of specs/Answers.antt), is the first refusal of its order whose
-// condition holds. The conditions are of the text itself (specs/Text.antt of sheet_text) and of the list by kelvin (specs/Sheet.antt); a refusal leaves the list as it was.
+// The gas sheet (document 01, "The gas sheet"): its text read into a list, a list judged before it is used, and the text of a list written (document 02, request 1).
+// Every call takes every input. What an answer tells, in the paper's numbers (`paper` of specs/Answers.antt and specs/Writing.antt), is the first refusal of its order whose
+// condition holds. The conditions are of the text itself (specs/Text.antt of sheet_text) and of the list by kelvin (specs/Sheet.antt); a refusal leaves the list, or the
+// buffer, as it was. What was written is read as the same list, and what was read is written as the same bytes (specs/WritingLaws.antt).
 pub mod inner;
 mod judging;
 
 use refusal::Refusal;
+use sheet_text::writing;
 ghost use mathlib.Core.Path.{_≡_};
+ghost use Rattle.sheet.specs.Sheet.{Accepted};
 ghost use Rattle.sheet.specs.Answers.{SheetRead, paperSheet, judgeTold};
+ghost use Rattle.sheet.specs.Writing.{SheetWritten};
 
 // A good sheet, or the refusal.
 pub enum SheetAnswer {
     Good,
+    Refused(Refusal),
+}
+
+// The bytes of the text that was written, or the refusal.
+pub enum WriteAnswer {
+    Written(usize),
     Refused(Refusal),
 }
 
@@ -23,6 +33,8 @@ pub const LIST_LENGTH: u32 = 1;
 pub const FORM: u32 = 2;
 // a value over the most in a sheet list, or step rule broken
 pub const BAD_ROW: u32 = 3;
+// a lent buffer is shorter than the text
+pub const SHORT_BUFFER: u32 = 14;
 
 // Reads the text of a sheet into a list of its numbers, row by row: O2, CO2 and H2O of 200 K first.
 pub fn read_sheet(text: &[u8], list: &mut [u32]) -> SheetAnswer
@@ -47,4 +59,27 @@ pub fn judge_sheet(list: &[u32]) -> SheetAnswer
 {
     let air = rows::columns::heat_column();
     inner::judge(list, &air)
+}
+
+// Writes the text of a sheet list into the buffer from its first place on, and answers its bytes.
+pub fn write_sheet(list: &[u32], buf: &mut [u8]) -> WriteAnswer
+    ensures { λ r. ⌜ SheetWritten (now (list .entry)) (now (buf .entry)) r (now (buf .exit)) ⌝ }
+{
+    match judge_sheet(list) {
+        SheetAnswer::Good => write_accepted(list, buf),
+        SheetAnswer::Refused(refusal) => WriteAnswer::Refused(refusal),
+    }
+}
+
+// The same of an accepted sheet. Its text is counted first, so that a buffer that is too short is left as it was.
+fn write_accepted(list: &[u32], buf: &mut [u8]) -> WriteAnswer
+    requires { ⌜ Accepted (now list) ⌝ }
+    ensures { λ r. ⌜ SheetWritten (now (list .entry)) (now (buf .entry)) r (now (buf .exit)) ⌝ }
+{
+    let bytes = writing::text_length(list);
+    if buf.len() < bytes {
+        return WriteAnswer::Refused(Refusal::Plain(SHORT_BUFFER));
+    }
+    writing::write_text(list, bytes, buf);
+    WriteAnswer::Written(bytes)
 }

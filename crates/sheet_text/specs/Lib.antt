@@ -6,3 +6,4 @@ pub mod MachineLaws
 pub mod WholeLaws
 pub mod HeldLaws
 pub mod FirstBadLaws
+pub mod TextLaws

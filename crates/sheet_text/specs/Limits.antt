@@ -9,3 +9,10 @@ sheetNumbers = 3 * tableRows
 -- no value is over it
 abbrev pub mostFigure : ℕ
 mostFigure = 200000
+
+-- the bytes of a sheet's text, at least and at most
+abbrev pub leastText : ℕ
+leastText = 19011
+
+abbrev pub mostText : ℕ
+mostText = 46026

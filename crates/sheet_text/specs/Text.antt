@@ -24,6 +24,10 @@ rowsOf (suc r) l = rowsOf r l ++ rowText (firstKelvin + r) (getD l (3 * r) 0) (g
 unfoldable pub sheetText : List ℕ → List ℕ
 sheetText l = rowsOf tableRows l
 
+-- its bytes: from 19,011 to 46,026 (TextLaws.antt)
+abbrev pub textLength : List ℕ → ℕ
+textLength l = length (sheetText l)
+
 -- 5,403 numbers of 0 to 200,000
 pub record Numbers (l : List ℕ) : Type 0 where
   pub full : length l ≡ sheetNumbers

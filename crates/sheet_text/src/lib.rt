@@ -1,5 +1,8 @@
 // The text of a sheet (document 01, "The gas sheet"), read byte by byte: a place in the sheet by value, moved on by one byte at a time, and the numbers put into a list. For
 // `sheet` above, which tells the answer: each function is one definition of specs/Machine.antt, and the laws show that what it finds is the form of the text (specs/Text.antt).
+// `writing` counts and writes that text.
+pub mod writing;
+
 ghost use mathlib.Core.Path.{_≡_};
 ghost use mathlib.Core.Bool.{Bool, cond};
 ghost use Prim.Native.Nat.{_+_, _*_, _<_};
@@ -15,6 +18,8 @@ pub const ROWS: u32 = rows::ROWS as u32;
 const FIRST_KELVIN: u32 = rows::FIRST_KELVIN as u32;
 // no value is over it
 pub const MOST_FIGURE: u64 = 200000;
+// no text of a sheet has more bytes
+pub const MOST_TEXT: usize = 46026;
 
 // Where the reader stands: the row, the field in it, the number so far and whether it has a digit, and the row's first two numbers.
 pub struct Place {

@@ -1,13 +1,17 @@
 // Text as bytes: a decimal number read byte by byte under a limit, whole numbers of 64 bits read and written, texts put into a lent buffer.
-// What is read and what is written are one definition, `decimal` and `decimalZ` of specs/Decimal.antt. Every function takes every input:
-// the readers promise an equation, the writers `Put`, which fixes the buffer and the place after the text and joins by `put-then`.
+// What is read and what is written are one definition, `decimal` and `decimalZ` of specs/Decimal.antt. The readers promise an equation and take every input, and so do
+// the writers from a place on: they promise `Put`, which fixes the buffer and the place after the text and joins by `put-then`. A text whose length was counted is
+// written from its end, where there is room for it, so that no number is measured twice: `Stands`, which joins by `stands-before`.
 ghost use mathlib.Core.Path.{_≡_};
 ghost use mathlib.Core.Bool.{Bool};
+ghost use Prim.Native.Nat.{_≤_};
 ghost use mathlib.Core.List.{List, [], _∷_, _++_};
 ghost use lib.IntN.{natAbs};
+ghost use lib.ListN.{length};
 ghost use Rattle.text.specs.Decimal.{decimal, decimalZ};
 ghost use Rattle.text.specs.Wholes.{isDigit, mayFollow, extended, stepDigits, digitsOf, Within, plusOf, minusOf, minusFirst, wholeOf};
 ghost use Rattle.text.specs.Put.{Put};
+ghost use Rattle.text.specs.Puts.{Stands};
 
 // What the digits of a text say so far.
 enum Digits {
@@ -191,4 +195,42 @@ pub fn put_whole(z: i64, buf: &mut [u8], at: usize) -> usize
         let next = put_byte(45, buf, at);
         put_decimal(size(z), buf, next)
     }
+}
+
+// How many digits a number has in decimal.
+pub fn count_digits(n: u64) -> usize
+    ensures { λ r. ⌜ (r ≡ length (decimal n)) × (r ≤ 20) ⌝ }
+{
+    let tenth = n / 10;
+    let mut unit: u64 = 1;
+    let mut count = 1;
+    while unit <= tenth {
+        unit *= 10;
+        count += 1;
+    }
+    count
+}
+
+// The byte put before a place. Answers where it stands.
+pub fn end_with_byte(b: u8, buf: &mut [u8], end: usize) -> usize
+    requires { ⌜ (1 ≤ end) × (end ≤ length (now buf)) ⌝ }
+    ensures { λ r. ⌜ Stands (b ∷ []) (now (buf .entry)) r end (now (buf .exit)) ⌝ }
+{
+    let at = end - 1;
+    buf[at] = b;
+    at
+}
+
+// The number put in decimal before a place, its last digit first. Answers where it begins.
+pub fn end_with_decimal(n: u64, buf: &mut [u8], end: usize) -> usize
+    requires { ⌜ (length (decimal n) ≤ end) × (end ≤ length (now buf)) ⌝ }
+    ensures { λ r. ⌜ Stands (decimal n) (now (buf .entry)) r end (now (buf .exit)) ⌝ }
+{
+    let mut rest = n;
+    let mut at = end;
+    while rest >= 10 {
+        at = end_with_byte(48 + (rest % 10) as u8, buf, at);
+        rest /= 10;
+    }
+    end_with_byte(48 + rest as u8, buf, at)
 }
