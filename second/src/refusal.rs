@@ -1,4 +1,4 @@
-//! Document 01, "Refusal numbers".
+//! Document 01, "Refusal numbers", and those that the requests of document 02 add.
 
 /// A refusal: its number and, for 2 and 3, the first bad row.
 #[derive(Clone, Copy, Debug, PartialEq, Eq)]

@@ -1,4 +1,4 @@
-//! Document 01, "The gas sheet": its text, its list, and when a list is accepted.
+//! Document 01, "The gas sheet": its text, its list, and when a list is accepted. Document 02, request 1: the text written back.
 
 use crate::refusal::{refuse_at, refuse_if, Refusal};
 use crate::table::{figure, table, FIRST};
@@ -81,6 +81,16 @@ fn bad_row(list: &[u32], row: usize) -> bool {
         falls || gas(row, 0) - gas(row - 1, 0) > 4 * (air(row) - air(row - 1))
     };
     over || breaks_step
+}
+
+/// Writes the text of a sheet list into a lent buffer, later bytes unchanged, and gives its length: 1 and 3 as the judge gives them,
+/// then 14 for a buffer shorter than the text.
+pub fn write(list: &[u32], buffer: &mut [u8]) -> Result<usize, Refusal> {
+    judge(list)?;
+    let text = text(list);
+    refuse_if(buffer.len() < text.len(), 14)?;
+    buffer[..text.len()].copy_from_slice(text.as_bytes());
+    Ok(text.len())
 }
 
 /// The sheet that comes with the product, from Table 5 of the same report: H of air plus the

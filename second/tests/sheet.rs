@@ -1,10 +1,12 @@
-//! The gas sheet: its text, the first bad row, the step rule, the built-in sheet.
+//! The gas sheet: its text, the first bad row, the step rule, the built-in sheet, the text written back.
 
+use second::dice::Dice;
 use second::refusal::Refusal;
-use second::sheet::{built_in, first_bad_row, judge, read, text, PLACES};
+use second::sheet::{built_in, first_bad_row, judge, read, text, write, PLACES};
 use second::table::table;
+use second::trials::sheets::{accepted, bases, limit_texts, random, random_text};
 
-fn at_row(number: u32, row: u32) -> Result<(), Refusal> {
+fn at_row<T>(number: u32, row: u32) -> Result<T, Refusal> {
     Err(Refusal { number, row: Some(row) })
 }
 
@@ -112,7 +114,7 @@ fn can_follow(bytes: &[u8]) -> bool {
 #[test]
 fn first_bad_row_is_the_row_of_the_first_byte_that_spoils() {
     let bases = [text(&built_in()), text(&flat([0; 3])), text(&flat([200_000; 3]))];
-    let mut dice = second::dice::Dice::new(1);
+    let mut dice = Dice::new(1);
     for case in 0..600 {
         let mut bytes = bases[case % 3].clone().into_bytes();
         let at = dice.below(bytes.len() as u64 + 1) as usize;
@@ -176,4 +178,103 @@ fn oxygen_may_rise_four_times_as_air_does() {
         over[3 * row] += 1;
         assert_eq!(judge(&over), at_row(3, row as u32));
     }
+}
+
+/// A byte that no text has.
+const BLANK: u8 = b'#';
+
+/// A list written into a blank buffer of that length, and the buffer; a refusal leaves it blank.
+fn written(list: &[u32], length: usize) -> (Result<usize, Refusal>, Vec<u8>) {
+    let mut buffer = vec![BLANK; length];
+    let answer = write(list, &mut buffer);
+    assert!(answer.is_ok() || buffer == vec![BLANK; length]);
+    (answer, buffer)
+}
+
+#[test]
+fn a_text_is_written_where_it_fits() {
+    let mut dice = Dice::new(2);
+    let known = [(built_in(), 40_164), (flat([0; 3]), 19_011), (flat([200_000; 3]), 46_026)];
+    let others = (0..20).map(|_| random(&mut dice)).chain(accepted());
+    let counted = others.map(|list| {
+        let n = text(&list).len();
+        (list, n)
+    });
+    for (list, n) in known.into_iter().chain(counted) {
+        for length in [0, 1, n - 1] {
+            assert_eq!(written(&list, length).0, Err(Refusal::plain(14)), "{length}");
+        }
+        for length in [n, n + 1, 50_000] {
+            let (answer, buffer) = written(&list, length);
+            assert_eq!(answer, Ok(n));
+            assert!(buffer[..n] == *text(&list).as_bytes());
+            assert!(buffer[n..].iter().all(|byte| *byte == BLANK));
+        }
+    }
+}
+
+#[test]
+fn the_bytes_of_a_text() {
+    let mut list = flat([0, 10, 99_999]);
+    list[5402] = 100_000;
+    let (answer, buffer) = written(&list, 30_000);
+    let rows = (200..2000).map(|kelvin| format!("{kelvin}\t0\t10\t99999\n"));
+    let right: String = rows.chain(["2000\t0\t10\t100000\n".to_string()]).collect();
+    assert_eq!(answer, Ok(right.len()));
+    assert!(buffer.starts_with(right.as_bytes()));
+}
+
+#[test]
+fn a_writer_refuses_1_then_3_then_14() {
+    for length in [0, PLACES - 1, PLACES + 1] {
+        for room in [0, 50_000] {
+            assert_eq!(written(&vec![200_001; length], room).0, Err(Refusal::plain(1)));
+        }
+    }
+    let (mut over, mut falls) = (flat([0; 3]), flat([7; 3]));
+    over[0] = 200_001;
+    falls[3 * 300 + 2] = 6;
+    for room in [0, 19_010, 19_011, 50_000] {
+        assert_eq!(written(&over, room).0, at_row(3, 0));
+        assert_eq!(written(&falls, room).0, at_row(3, 300));
+    }
+    assert_eq!(written(&flat([7; 3]), 0).0, Err(Refusal::plain(14)));
+}
+
+#[test]
+fn reading_what_was_written_gives_the_list() {
+    let mut dice = Dice::new(3);
+    for sheet in accepted().into_iter().chain((0..50).map(|_| random(&mut dice))) {
+        let (answer, buffer) = written(&sheet, 46_026);
+        let mut list = vec![1; PLACES];
+        assert_eq!(read(&buffer[..answer.unwrap()], &mut list), Ok(()));
+        assert!(list == sheet);
+    }
+}
+
+/// A text that is read and keeps the step rule comes back; one that only breaks the rule is refused at its row.
+#[test]
+fn writing_what_was_read_gives_the_bytes() {
+    let (mut dice, bases) = (Dice::new(4), bases());
+    let (mut back, mut refused) = (0, 0);
+    let any = (0..600).map(|_| random_text(&mut dice, &bases));
+    for bytes in limit_texts().into_iter().chain(any) {
+        let mut list = vec![1; PLACES];
+        if read(&bytes, &mut list).is_err() {
+            continue;
+        }
+        let (answer, buffer) = written(&list, bytes.len());
+        match judge(&list) {
+            Ok(()) => {
+                assert_eq!(answer, Ok(bytes.len()));
+                assert!(buffer == bytes);
+                back += 1;
+            }
+            Err(refusal) => {
+                assert_eq!((answer, refusal.number), (Err(refusal), 3));
+                refused += 1;
+            }
+        }
+    }
+    assert!(back > 10 && refused > 10, "{back} {refused}");
 }
