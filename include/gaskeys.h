@@ -26,10 +26,10 @@
  * may call at the same time.
  *
  * STACK: a thread with 48 KB of stack can make every call, and one with 24 KB every call but gaskeys_read_sheet. Measured were 30 KB for gaskeys_read_sheet and at most
- * 14 KB for any other, the thread's own 4 KB among them; bindings/c/limits.c measures it again and passes NULL to every call.
+ * 14 KB for any other, the thread's own 4 KB among them, before there was gaskeys_write_sheet; bindings/c/limits.c measures it again and passes NULL to every call.
  *
- * VERSION: GASKEYS_VERSION goes up whenever a list or a struct changes its meaning. The archive has the symbol gaskeys_version_1, named after the number, and every file
- * that includes this header refers to it: what was compiled with the header of another version does not link.
+ * VERSION: GASKEYS_VERSION goes up whenever a list or a struct changes its meaning; a further call leaves it as it is. The archive has the symbol gaskeys_version_1, named
+ * after the number, and every file that includes this header refers to it: what was compiled with the header of another version does not link.
  */
 #ifndef GASKEYS_H
 #define GASKEYS_H
@@ -45,7 +45,7 @@ extern "C" {
 
 #define GASKEYS_VERSION 1
 
-/* Gives 2. */
+/* Gives 1. */
 uint32_t gaskeys_version_1(void);
 
 /* The reference to it, kept also where nothing uses it. */
@@ -61,19 +61,20 @@ static uint32_t (*const gaskeys_linked_version)(void) GASKEYS_KEPT = gaskeys_ver
 /* ---- refusals ---- */
 
 enum gaskeys_refusal {
-    GASKEYS_SHEET_LENGTH = 1, /* the sheet list is not 5,403 long */
-    GASKEYS_SHEET_TEXT = 2,   /* the sheet text breaks its form; `row` is its first bad row, 0 to 1,800, or 1,801 for bytes past the end */
-    GASKEYS_SHEET_ROW = 3,    /* the sheet list has a value over 200,000 or breaks the step rule; `row` is the first bad row */
-    GASKEYS_CHARGE = 4,       /* air, carbon or hydrogen outside its limit, or atoms added negative */
-    GASKEYS_NOT_LEAN = 5,     /* not lean */
-    GASKEYS_TEMPERATURE = 6,  /* temperature outside its range */
-    GASKEYS_STEP_HEAT = 7,    /* calorific value or plain heat outside its range */
-    GASKEYS_BELOW = 8,        /* target below the value at 200 K */
-    GASKEYS_ABOVE = 9,        /* target above the value at 2,000 K */
-    GASKEYS_SHORT_LIST = 10,  /* a lent list is too short */
-    GASKEYS_NO_NUMBER = 11,   /* the typed answer is blank, infinite or not a number */
-    GASKEYS_WINDOW = 12,      /* window or key outside its range */
-    GASKEYS_STEPS_LENGTH = 13 /* the list of steps is no multiple of four long, or over 256 */
+    GASKEYS_SHEET_LENGTH = 1,  /* the sheet list is not 5,403 long */
+    GASKEYS_SHEET_TEXT = 2,    /* the sheet text breaks its form; `row` is its first bad row, 0 to 1,800, or 1,801 for bytes past the end */
+    GASKEYS_SHEET_ROW = 3,     /* the sheet list has a value over 200,000 or breaks the step rule; `row` is the first bad row */
+    GASKEYS_CHARGE = 4,        /* air, carbon or hydrogen outside its limit, or atoms added negative */
+    GASKEYS_NOT_LEAN = 5,      /* not lean */
+    GASKEYS_TEMPERATURE = 6,   /* temperature outside its range */
+    GASKEYS_STEP_HEAT = 7,     /* calorific value or plain heat outside its range */
+    GASKEYS_BELOW = 8,         /* target below the value at 200 K */
+    GASKEYS_ABOVE = 9,         /* target above the value at 2,000 K */
+    GASKEYS_SHORT_LIST = 10,   /* a lent list is too short */
+    GASKEYS_NO_NUMBER = 11,    /* the typed answer is blank, infinite or not a number */
+    GASKEYS_WINDOW = 12,       /* window or key outside its range */
+    GASKEYS_STEPS_LENGTH = 13, /* the list of steps is no multiple of four long, or over 256 */
+    GASKEYS_SHORT_BUFFER = 14  /* the buffer is shorter than the text */
 };
 
 /* ---- the gas sheet ---- */
@@ -96,6 +97,21 @@ gaskeys_sheet_told gaskeys_judge_sheet(const uint32_t *list, size_t list_length)
 /* Puts the sheet that comes with the product into `list`: it is accepted by every call that takes a sheet.
  * Refusals: 1. Leaves: all 5,403 places written, or with a refusal none. */
 gaskeys_sheet_told gaskeys_built_in_sheet(uint32_t *list, size_t list_length);
+
+/* The text of a sheet has 19,011 to 46,026 bytes: a buffer of the most is never too short. */
+enum { GASKEYS_SHEET_TEXT_MOST = 46026 };
+
+typedef struct {
+    uint32_t refusal;
+    uint32_t row;
+    uint32_t placed;
+    size_t bytes; /* the bytes of the text */
+} gaskeys_written_told;
+
+/* Writes the text of a sheet list into `text`, as gaskeys_read_sheet takes it: reading it gives the list again. A text that was read is written as it was, unless
+ * its list breaks the step rule. The text is not ended by a 0.
+ * Refusals: 1, 3, 14 (fewer bytes than the text has). Leaves: the text in the first `bytes` places, later places as they were, or with a refusal all. */
+gaskeys_written_told gaskeys_write_sheet(const uint32_t *list, size_t list_length, uint8_t *text, size_t text_length);
 
 /* ---- dry air ---- */
 

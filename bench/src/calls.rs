@@ -1,12 +1,16 @@
 //! The calls of one side, and what a row of the table asks of them.
 
-use gaskeys::raw::{self, MarkTold, PsiTold, SheetTold, StationTold, TemperatureTold, WalkTold};
+use gaskeys::raw::{
+    self, MarkTold, PsiTold, SheetTold, StationTold, TemperatureTold, WalkTold, WrittenTold,
+};
+use gaskeys::SHEET_TEXT_MOST;
 use second::gas::Charge;
 
 /// The calls of include/gaskeys.h that are measured. Each field has the signature of the call of its name.
 pub struct Calls {
     pub read_sheet: unsafe extern "C" fn(*const u8, usize, *mut u32, usize) -> SheetTold,
     pub judge_sheet: unsafe extern "C" fn(*const u32, usize) -> SheetTold,
+    pub write_sheet: unsafe extern "C" fn(*const u32, usize, *mut u8, usize) -> WrittenTold,
     pub temperature: unsafe extern "C" fn(
         i64,
         i64,
@@ -41,6 +45,7 @@ pub struct Calls {
 pub const PROVED: Calls = Calls {
     read_sheet: raw::gaskeys_read_sheet,
     judge_sheet: raw::gaskeys_judge_sheet,
+    write_sheet: raw::gaskeys_write_sheet,
     temperature: raw::gaskeys_temperature,
     psi_inverse: raw::gaskeys_psi_inverse,
     walk: raw::gaskeys_walk,
@@ -58,6 +63,7 @@ pub enum Inputs {
     Stations(Vec<(Charge, i64)>),
     Sheet,
     Text(Vec<u8>),
+    Written,
     Psis(Vec<i64>),
     Marks(Vec<(f64, i64)>),
 }
@@ -67,7 +73,7 @@ impl Inputs {
         match self {
             Inputs::Walks(walks) => walks.len(),
             Inputs::Heats(inputs) | Inputs::Stations(inputs) => inputs.len(),
-            Inputs::Sheet | Inputs::Text(_) => 1,
+            Inputs::Sheet | Inputs::Text(_) | Inputs::Written => 1,
             Inputs::Psis(targets) => targets.len(),
             Inputs::Marks(inputs) => inputs.len(),
         }
@@ -78,6 +84,7 @@ impl Inputs {
 pub struct Lists {
     pub sheet: Vec<u32>,
     pub read: Vec<u32>,
+    pub written: Vec<u8>,
     pub temperatures: [i64; 64],
     pub rests: [i64; 64],
     pub looks: [u32; 704],
@@ -85,8 +92,8 @@ pub struct Lists {
 
 impl Lists {
     pub fn new(sheet: Vec<u32>) -> Lists {
-        let read = vec![0; sheet.len()];
-        Lists { sheet, read, temperatures: [0; 64], rests: [0; 64], looks: [0; 704] }
+        let (read, written) = (vec![0; sheet.len()], vec![0; SHEET_TEXT_MOST]);
+        Lists { sheet, read, written, temperatures: [0; 64], rests: [0; 64], looks: [0; 704] }
     }
 }
 
@@ -119,6 +126,13 @@ pub fn ask(calls: &Calls, inputs: &Inputs, i: usize, lists: &mut Lists) -> u64 {
                 let told =
                     (calls.read_sheet)(text.as_ptr(), text.len(), lists.read.as_mut_ptr(), n);
                 mix(&[told.refusal as i64, lists.read[0] as i64, lists.read[n - 1] as i64])
+            }
+            Inputs::Written => {
+                let (text, most) = (lists.written.as_mut_ptr(), lists.written.len());
+                let told = (calls.write_sheet)(sheet, n, text, most);
+                // the first digit of a gas and the last
+                let digits = [lists.written[4], lists.written[told.bytes - 2]].map(i64::from);
+                mix(&[told.refusal as i64, told.bytes as i64, digits[0], digits[1]])
             }
             Inputs::Psis(targets) => {
                 let told = (calls.psi_inverse)(targets[i], looks, 11);

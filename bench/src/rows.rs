@@ -19,6 +19,7 @@ pub fn rows(list: &[u32]) -> Vec<(&'static str, Inputs)> {
         ("station", Inputs::Stations(draw(|| (lean(dice), dice.from_to(200_000, 2_000_000))))),
         ("sheet judged", Inputs::Sheet),
         ("sheet read", Inputs::Text(sheet::text(list).into_bytes())),
+        ("sheet written", Inputs::Written),
         ("psi inverse", Inputs::Psis(draw(|| dice.from_to(95_264_000, 133_150_999)))),
         ("mark, short fractions", Inputs::Marks(draw(|| mark(dice, 3_600, 2.0)))),
         ("mark, long fractions", Inputs::Marks(draw(|| mark(dice, 1 << 53, 4.5e12)))),

@@ -94,6 +94,17 @@ static void kerosene(void) {
     printf("100 C.H.U./lb less: %" PRId64 " mK, rest %" PRId64 "\n", cooled.millikelvin, cooled.rest);
 }
 
+/* The same sheet with another figure for the H2O of 200 K, written back: the text of the built-in sheet has 40,164 bytes by the second implementation, and the new figure
+ * has as many digits as the old. A buffer that is a byte shorter is refused. */
+static void write_back(void) {
+    static uint8_t written[GASKEYS_SHEET_TEXT_MOST];
+    sheet[2] = 8777;
+    gaskeys_written_told told = gaskeys_write_sheet(sheet, PLACES, written, sizeof written);
+    printf("written back: %zu bytes, the first row\n%.18s\n", told.bytes, (const char *)written);
+    gaskeys_written_told refused = gaskeys_write_sheet(sheet, PLACES, written, told.bytes - 1);
+    printf("a byte too few: refusal %" PRIu32 "\n", refused.refusal);
+}
+
 int main(void) {
     printf("version %d, and the archive's %" PRIu32 "\n", GASKEYS_VERSION, gaskeys_version_1());
     read_text();
@@ -101,5 +112,6 @@ int main(void) {
     air();
     gas();
     kerosene();
+    write_back();
     return 0;
 }

@@ -9,7 +9,7 @@
 
 enum { ROWS = 1801, PLACES = 5403, STEPS = 64, STACK = 1 << 18, PAINT = 0xA5 };
 
-static uint8_t text[ROWS * 32];
+static uint8_t text[ROWS * 32], written[GASKEYS_SHEET_TEXT_MOST];
 static size_t length;
 static uint32_t sheet[PLACES], list[PLACES], looks[11 * STEPS];
 static int64_t steps[4 * STEPS], temperatures[STEPS], rests[STEPS];
@@ -21,6 +21,7 @@ static const int64_t air = 100000, carbon = 21500, hydrogen = 41429, millikelvin
 static void read_sheet(void) { gaskeys_read_sheet(text, length, list, PLACES); }
 static void judge_sheet(void) { gaskeys_judge_sheet(sheet, PLACES); }
 static void built_in_sheet(void) { gaskeys_built_in_sheet(list, PLACES); }
+static void write_sheet(void) { gaskeys_write_sheet(sheet, PLACES, written, sizeof written); }
 static void air_heat(void) { gaskeys_air_heat(millikelvin); }
 static void air_psi(void) { gaskeys_air_psi(millikelvin); }
 static void air_cp(void) { gaskeys_air_cp(2000); }
@@ -44,6 +45,7 @@ static const call calls[] = {
     {"read_sheet", read_sheet, 49152},
     {"judge_sheet", judge_sheet, 24576},
     {"built_in_sheet", built_in_sheet, 24576},
+    {"write_sheet", write_sheet, 24576},
     {"air_heat", air_heat, 24576},
     {"air_psi", air_psi, 24576},
     {"air_cp", air_cp, 24576},
@@ -115,6 +117,8 @@ static int null_is_read(void) {
            wrong("read_sheet", gaskeys_read_sheet(text, length, NULL, 0).refusal, GASKEYS_SHEET_LENGTH) |
            wrong("judge_sheet", gaskeys_judge_sheet(NULL, 0).refusal, GASKEYS_SHEET_LENGTH) |
            wrong("built_in_sheet", gaskeys_built_in_sheet(NULL, 0).refusal, GASKEYS_SHEET_LENGTH) |
+           wrong("write_sheet", gaskeys_write_sheet(NULL, 0, written, sizeof written).refusal, GASKEYS_SHEET_LENGTH) |
+           wrong("write_sheet", gaskeys_write_sheet(sheet, PLACES, NULL, 0).refusal, GASKEYS_SHORT_BUFFER) |
            wrong("gas_heat", gaskeys_gas_heat(1, 0, 0, 300000, NULL, 0).refusal, GASKEYS_SHEET_LENGTH) |
            wrong("content", gaskeys_content(1, 0, 0, 300000, NULL, 0).refusal, GASKEYS_SHEET_LENGTH) |
            wrong("specific_content", gaskeys_specific_content(1, 0, 0, 300000, NULL, 0).refusal, GASKEYS_SHEET_LENGTH) |

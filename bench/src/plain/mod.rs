@@ -8,10 +8,13 @@ mod marking;
 mod reader;
 mod sheet;
 mod walk;
+mod writer;
 
 use crate::calls::Calls;
 use gas::Charge;
-use gaskeys::raw::{MarkTold, PsiTold, SheetTold, StationTold, TemperatureTold, WalkTold};
+use gaskeys::raw::{
+    MarkTold, PsiTold, SheetTold, StationTold, TemperatureTold, WalkTold, WrittenTold,
+};
 use std::slice::{from_raw_parts, from_raw_parts_mut};
 
 mod columns {
@@ -26,8 +29,16 @@ fn placed(refusal: u32) -> u32 {
     matches!(refusal, 2 | 3) as u32
 }
 
-pub const PLAIN: Calls =
-    Calls { read_sheet, judge_sheet, temperature, psi_inverse, walk: walk_told, station, mark };
+pub const PLAIN: Calls = Calls {
+    read_sheet,
+    judge_sheet,
+    write_sheet,
+    temperature,
+    psi_inverse,
+    walk: walk_told,
+    station,
+    mark,
+};
 
 fn sheet_told(answer: Result<(), Refused>) -> SheetTold {
     let (refusal, row) = answer.err().unwrap_or_default();
@@ -40,6 +51,18 @@ unsafe extern "C" fn read_sheet(text: *const u8, n: usize, list: *mut u32, m: us
 
 unsafe extern "C" fn judge_sheet(list: *const u32, n: usize) -> SheetTold {
     sheet_told(sheet::judge(from_raw_parts(list, n)))
+}
+
+unsafe extern "C" fn write_sheet(
+    list: *const u32,
+    n: usize,
+    text: *mut u8,
+    m: usize,
+) -> WrittenTold {
+    match writer::write(from_raw_parts(list, n), from_raw_parts_mut(text, m)) {
+        Ok(bytes) => WrittenTold { refusal: 0, row: 0, placed: 0, bytes },
+        Err((refusal, row)) => WrittenTold { refusal, row, placed: placed(refusal), bytes: 0 },
+    }
 }
 
 unsafe extern "C" fn temperature(

@@ -24,5 +24,8 @@ pub use gas::{
 };
 pub use marking::{mark, station, Station, Typed};
 pub use refusal::{Reason, Refusal};
-pub use sheet::{built_in_sheet, fill_built_in_sheet, judge_sheet, read_sheet, SHEET_PLACES};
+pub use sheet::{
+    built_in_sheet, fill_built_in_sheet, judge_sheet, read_sheet, write_sheet, SHEET_PLACES,
+    SHEET_TEXT_MOST,
+};
 pub use walk::{walk, Lent, State, Step, Walked};

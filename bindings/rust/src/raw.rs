@@ -10,6 +10,14 @@ pub struct SheetTold {
 }
 
 #[repr(C)]
+pub struct WrittenTold {
+    pub refusal: u32,
+    pub row: u32,
+    pub placed: u32,
+    pub bytes: usize,
+}
+
+#[repr(C)]
 pub struct ReadingTold {
     pub refusal: u32,
     pub row: u32,
@@ -107,6 +115,13 @@ extern "C" {
     pub fn gaskeys_judge_sheet(list: *const u32, list_length: usize) -> SheetTold;
 
     pub fn gaskeys_built_in_sheet(list: *mut u32, list_length: usize) -> SheetTold;
+
+    pub fn gaskeys_write_sheet(
+        list: *const u32,
+        list_length: usize,
+        text: *mut u8,
+        text_length: usize,
+    ) -> WrittenTold;
 
     pub fn gaskeys_air_heat(millikelvin: i64) -> ReadingTold;
 

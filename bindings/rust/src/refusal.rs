@@ -1,7 +1,7 @@
 use std::error::Error;
 use std::fmt;
 
-/// The refusals of document 01 by name; `as u32` gives the number.
+/// The refusals of documents 01 and 02 by name; `as u32` gives the number.
 #[derive(Clone, Copy, Debug, PartialEq, Eq, PartialOrd, Ord, Hash)]
 pub enum Reason {
     /// The sheet list is not 5,403 long.
@@ -30,10 +30,12 @@ pub enum Reason {
     Window = 12,
     /// The list of steps is no multiple of four long, or over 256.
     StepsLength = 13,
+    /// The buffer is shorter than the text.
+    ShortBuffer = 14,
 }
 
 /// Each with its words, in the order of the numbers.
-const REASONS: [(Reason, &str); 13] = [
+const REASONS: [(Reason, &str); 14] = [
     (Reason::SheetLength, "the sheet list is not 5,403 long"),
     (Reason::SheetText, "the sheet text breaks its form"),
     (Reason::SheetRow, "a value over 200,000 in the sheet list, or the step rule is broken"),
@@ -47,6 +49,7 @@ const REASONS: [(Reason, &str); 13] = [
     (Reason::NoNumber, "the answer is blank, infinite or not a number"),
     (Reason::Window, "window or key outside its range"),
     (Reason::StepsLength, "the list of steps is no multiple of four long, or over 256"),
+    (Reason::ShortBuffer, "the buffer is shorter than the text"),
 ];
 
 /// Why a call gave no answer: a reason and, for the two of a sheet's rows, the first bad row.
@@ -69,7 +72,7 @@ impl Refusal {
         self.reason
     }
 
-    /// The number in document 01, 1 to 13.
+    /// The number in documents 01 and 02, 1 to 14.
     pub fn number(self) -> u32 {
         self.reason as u32
     }

@@ -4,6 +4,9 @@ use crate::Refusal;
 /// The places of a sheet list: O2, CO2 and H2O of 200 K first, then of each kelvin to 2,000.
 pub const SHEET_PLACES: usize = 5403;
 
+/// The most bytes that the text of a sheet has; the fewest are 19,011.
+pub const SHEET_TEXT_MOST: usize = 46_026;
+
 /// Reads the text of a sheet into a list of [`SHEET_PLACES`] numbers.
 ///
 /// The form of the text is judged and not the step rule. A refusal (1, 2) leaves the list as it was.
@@ -62,4 +65,35 @@ pub fn fill_built_in_sheet(list: &mut [u32]) -> Result<(), Refusal> {
     // SAFETY: a Rust slice with its length.
     let told = unsafe { raw::gaskeys_built_in_sheet(list.as_mut_ptr(), list.len()) };
     Refusal::told(told.refusal, told.row, told.placed)
+}
+
+/// Writes the text of a sheet list into a buffer, as [`read_sheet`] takes it, and gives its number of
+/// bytes. A buffer of [`SHEET_TEXT_MOST`] bytes is never too short.
+///
+/// The list is judged first. Later bytes stay, and a refusal (1, 3, 14) changes none.
+///
+/// ```
+/// let text: String = (200..=2000).map(|kelvin| format!("{kelvin}\t10\t20\t30\n")).collect();
+/// let mut list = vec![0; gaskeys::SHEET_PLACES];
+/// gaskeys::read_sheet(text.as_bytes(), &mut list)?;
+/// list[5402] = 31;
+/// let mut buffer = vec![b'#'; gaskeys::SHEET_TEXT_MOST];
+/// let bytes = gaskeys::write_sheet(&list, &mut buffer)?;
+/// assert_eq!(bytes, text.len());
+/// assert!(buffer.starts_with(b"200\t10\t20\t30\n201\t10\t20\t30\n"));
+/// assert!(buffer[..=bytes].ends_with(b"\n2000\t10\t20\t31\n#"));
+///
+/// let mut short = vec![b'#'; bytes - 1];
+/// let refusal = gaskeys::write_sheet(&list, &mut short).unwrap_err();
+/// assert_eq!(refusal.to_string(), "refusal 14: the buffer is shorter than the text");
+/// assert!(short.iter().all(|byte| *byte == b'#'));
+/// # Ok::<(), gaskeys::Refusal>(())
+/// ```
+pub fn write_sheet(list: &[u32], text: &mut [u8]) -> Result<usize, Refusal> {
+    // SAFETY: both are Rust slices, so they are live, aligned, not null and apart; their lengths go with them.
+    let told = unsafe {
+        raw::gaskeys_write_sheet(list.as_ptr(), list.len(), text.as_mut_ptr(), text.len())
+    };
+    Refusal::told(told.refusal, told.row, told.placed)?;
+    Ok(told.bytes)
 }

@@ -14,7 +14,16 @@ impl<T: From<u32>> Lent<T> {
     pub fn of(length: usize) -> Lent<T> {
         Lent((0..(length + 2 * MARGIN) as u32).map(|i| T::from(7_000_000 + i)).collect())
     }
+}
 
+impl Lent<u8> {
+    /// A buffer, of bytes that no text of a sheet has.
+    pub fn buffer(length: usize) -> Lent<u8> {
+        Lent((0..length + 2 * MARGIN).map(|i| 0x80 | i as u8).collect())
+    }
+}
+
+impl<T> Lent<T> {
     pub fn part(&mut self) -> &mut [T] {
         let end = self.0.len() - MARGIN;
         &mut self.0[MARGIN..end]

@@ -1,9 +1,10 @@
-//! Both sides of each limit that lent lists have: eleven places of looks, a step's places of a walk. A refusal leaves every place, and
-//! no call writes past the places that it needs.
+//! Both sides of each limit that lent lists have: eleven places of looks, a step's places of a walk, the bytes of a text. A refusal
+//! leaves every place, and no call writes past the places that it needs.
 
 use gaskeys::{Heat, Millikelvin, State, Walked};
 use second::gas::Charge;
 use second::inverse::PLACES;
+use second::sheet;
 use trial::charges::wrapped;
 use trial::lent::Lent;
 
@@ -95,5 +96,24 @@ fn a_walk_takes_its_places() {
         rests.part()[..steps].fill(0);
         let after = ([temperatures, rests], looks(lengths[2], steps));
         assert_eq!((of_steps, of_looks), after, "{numbers} {lengths:?}");
+    }
+}
+
+#[test]
+fn a_text_takes_its_bytes() {
+    let flat = |gas: u32| vec![gas; gaskeys::SHEET_PLACES];
+    for (list, bytes) in
+        [(flat(0), 19_011), (gaskeys::built_in_sheet(), 40_164), (flat(200_000), 46_026)]
+    {
+        for length in [0, bytes - 1, bytes, bytes + 1, 50_000] {
+            let (mut lent, mut after) = (Lent::buffer(length), Lent::buffer(length));
+            let right = if length < bytes { Err(14) } else { Ok(bytes) };
+            if right.is_ok() {
+                after.part()[..bytes].copy_from_slice(sheet::text(&list).as_bytes());
+            }
+            let answer = gaskeys::write_sheet(&list, lent.part());
+            assert_eq!(answer.map_err(|refusal| refusal.number()), right, "{length}");
+            assert_eq!(lent, after, "{length}");
+        }
     }
 }

@@ -103,19 +103,21 @@ fn the_built_in_sheet_is_the_one_that_is_made() {
 
 #[test]
 fn a_refusal_has_0_in_every_other_field() {
-    let sheet = gaskeys::built_in_sheet();
-    // SAFETY: numbers, and a Rust slice with its length.
-    let (burnt, heat, reading) = unsafe {
+    let (sheet, mut short) = (gaskeys::built_in_sheet(), [0; 9]);
+    // SAFETY: numbers, and Rust slices with their lengths.
+    let (burnt, heat, reading, written) = unsafe {
         (
             raw::gaskeys_burn(0, 1, 4),
             raw::gaskeys_gas_heat(1, 0, 0, 199_999, sheet.as_ptr(), sheet.len()),
             raw::gaskeys_air_heat(199_999),
+            raw::gaskeys_write_sheet(sheet.as_ptr(), sheet.len(), short.as_mut_ptr(), short.len()),
         )
     };
     assert_eq!((burnt.refusal, burnt.row, burnt.placed), (4, 0, 0));
     assert_eq!([burnt.co2, burnt.h2o, burnt.o2, burnt.n2, burnt.ar], [0; 5]);
     assert_eq!((heat.refusal, heat.row, heat.placed, heat.heat), (6, 0, 0, 0));
     assert_eq!((reading.refusal, reading.row, reading.placed, reading.reading), (6, 0, 0, 0));
+    assert_eq!((written.refusal, written.row, written.placed, written.bytes), (14, 0, 0, 0));
 }
 
 #[test]

@@ -1,10 +1,11 @@
-//! read_sheet and judge_sheet.
+//! read_sheet, judge_sheet and write_sheet, with every byte of the buffer.
 
+use gaskeys::SHEET_TEXT_MOST;
 use second::dice::Dice;
 use second::sheet::{self, PLACES};
-use second::trials::sheets::{damage, each_list, each_text};
+use second::trials::sheets::{damage, each_list, each_text, random};
 use trial::lent::Lent;
-use trial::{dice, first, other, sheets};
+use trial::{dice, first, other, sheets, Refused};
 
 /// Lengths of lent lists at and beside those that matter.
 const LENGTHS: [usize; 10] =
@@ -98,4 +99,76 @@ fn the_step_rule_is_kept_alike_in_every_row() {
         *(if same_verdict(list) { &mut good } else { &mut bad }) += 1;
     });
     assert!(good > 1_800 && bad > 1_800 && good + bad > 4_600, "{good} {bad}");
+}
+
+/// The list written by both into a buffer of that length: the text, which is read as the list again, or the refusal.
+fn same_writing(list: &[u32], length: usize) -> Result<Vec<u8>, Refused> {
+    let (mut one, mut two) = (Lent::buffer(length), Lent::buffer(length));
+    let answer = first(gaskeys::write_sheet(list, one.part()));
+    assert_eq!(answer, other(sheet::write(list, two.part())), "{length} {list:?}");
+    assert_eq!(one, two, "{length} {list:?}");
+    let text = one.part()[..answer?].to_vec();
+    let mut read = vec![0; PLACES];
+    assert_eq!(first(gaskeys::read_sheet(&text, &mut read)), Ok(()));
+    assert_eq!(read, list);
+    Ok(text)
+}
+
+/// Lengths of buffers at and beside those that matter to a list, and random ones.
+fn buffers(dice: &mut Dice, list: &[u32]) -> [usize; 8] {
+    let most = SHEET_TEXT_MOST;
+    let needed = sheet::write(list, &mut vec![0; most]).unwrap_or(most);
+    let [below, any] = [needed, 2 * most].map(|limit| dice.below(limit as u64) as usize);
+    [0, 1, needed - 1, needed, needed + 1, most, below, any]
+}
+
+#[test]
+fn lists_are_written_alike() {
+    let mut dice = dice(906);
+    let good = sheets::accepted(&mut dice);
+    let (mut written, mut refused) = (0, [0; 15]);
+    for _ in 0..1_000 {
+        let two = [dice.one_of(&good), random(&mut dice)];
+        let mut list = sheets::drawn(&mut dice, &two);
+        if dice.below(4) == 0 && !list.is_empty() {
+            damage(&mut dice, &mut list);
+        }
+        for length in buffers(&mut dice, &list) {
+            match same_writing(&list, length) {
+                Ok(_) => written += 1,
+                Err((number, _)) => refused[number as usize] += 1,
+            }
+        }
+    }
+    let [of_length, of_row, of_buffer] = [1, 3, 14].map(|number| refused[number]);
+    assert!(written > 2_000 && of_buffer > 2_000, "{written} {refused:?}");
+    assert!(of_length > 200 && of_row > 1_000, "{written} {refused:?}");
+}
+
+#[test]
+fn lists_at_the_step_rule_are_written_alike() {
+    let (mut written, mut refused) = (0, 0);
+    each_list(&mut dice(907), &mut |list| {
+        let text = same_writing(list, SHEET_TEXT_MOST);
+        *(if text.is_ok() { &mut written } else { &mut refused }) += 1;
+    });
+    assert!(written > 1_800 && refused > 1_800, "{written} {refused}");
+}
+
+#[test]
+fn a_text_that_was_read_is_written_back() {
+    let (mut written, mut refused) = (0, 0);
+    each_text(&mut dice(908), &mut |text| {
+        let mut list = vec![0; PLACES];
+        if gaskeys::read_sheet(text, &mut list).is_err() {
+            return;
+        }
+        let back = same_writing(&list, text.len());
+        match sheet::judge(&list) {
+            Ok(()) => assert_eq!(back.as_deref(), Ok(text)),
+            Err(refusal) => assert_eq!(back, Err((3, refusal.row))),
+        }
+        *(if back.is_ok() { &mut written } else { &mut refused }) += 1;
+    });
+    assert!(written > 200 && refused > 500, "{written} {refused}");
 }

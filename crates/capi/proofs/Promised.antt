@@ -11,7 +11,9 @@ use Rattle.air.specs.Answers.{paperPsi, PsiInverse}
 use Rattle.sheet_text.specs.Limits.{sheetNumbers}
 use Rattle.sheet.specs.declared.SheetAnswer.{SheetAnswer}
 use Rattle.sheet.specs.declared.SheetAnswer.the-variants.{Good, Refused}
+use Rattle.sheet.specs.declared.WriteAnswer.{WriteAnswer}
 use Rattle.sheet.specs.Answers.{paperSheet, numbersOf, listAfter, SheetRead}
+use Rattle.sheet.specs.Writing.{paperWrite, SheetWritten}
 use Rattle.built_in.specs.BuiltIn.{builtIn}
 use Rattle.burning.specs.declared.Charge.{Charge}
 use Rattle.gas.specs.declared.TemperatureAnswer.{TemperatureAnswer}
@@ -21,11 +23,12 @@ use Rattle.walk.specs.declared.WalkAnswer.{WalkAnswer}
 use Rattle.walk.specs.Lists.{Lists}
 use Rattle.walk.specs.Walk.{Trace, paperWalk, Walks}
 use Rattle.telling.specs.declared.SheetTold.{SheetTold}
+use Rattle.telling.specs.declared.WrittenTold.{WrittenTold}
 use Rattle.telling.specs.declared.TemperatureTold.{TemperatureTold}
 use Rattle.telling.specs.declared.PsiTold.{PsiTold}
 use Rattle.telling.specs.declared.WalkTold.{WalkTold}
-use Rattle.telling.specs.Flat.{flatSheet, flatTemperature, flatPsi, flatWalk}
-use Rattle.capi.specs.Lent.{listTold, SheetIs, BuiltInIs, TemperatureIs, PsiIs, WalkIs}
+use Rattle.telling.specs.Flat.{flatSheet, flatWritten, flatTemperature, flatPsi, flatWalk}
+use Rattle.capi.specs.Lent.{listTold, SheetIs, BuiltInIs, WrittenIs, TemperatureIs, PsiIs, WalkIs}
 
 -- the list by the answer is the list by what it tells
 list-as-told : (a : SheetAnswer) (numbers before : List ℕ) → listAfter a numbers before ≡ listTold (paperSheet a) numbers before
@@ -46,6 +49,9 @@ built-in-refused l n = record { told = rw (ne-eqb (length l) sheetNumbers n) ref
 
 pub built-in-told : (l : List ℕ) {later : List ℕ} → length l ≡ sheetNumbers → later ≡ builtIn → BuiltInIs l (record { refusal = 0; row = 0; placed = 0 }) later
 built-in-told l n e = record { told = rw (eq-eqb (length l) sheetNumbers n) refl; list = rw (eq-eqb (length l) sheetNumbers n) e }
+
+pub written-told : {s before later : List ℕ} {a : WriteAnswer} {r : WrittenTold} → SheetWritten s before a later → r ≡ flatWritten (paperWrite a) → WrittenIs s before r later
+written-told p q = record { told = q ∙ ap flatWritten (p .told); buffer = p .buffer }
 
 pub temperature-told : {w : Weights} {ch : Charge} {target : ℤ} {s before after : List ℕ} {a : TemperatureAnswer} {r : TemperatureTold}
     → Temperature w ch target s before a after → r ≡ flatTemperature (paperTemperature a) → TemperatureIs w ch target s before r after

@@ -30,7 +30,9 @@ use Rattle.walk.specs.Lists.{Lists}
 use Rattle.walk.specs.Walk.{Trace, End, ended, cut, run, stepsOf, startLines, startState, walked, walkedInto, courseOf, course}
 use Rattle.marking.specs.Marking.{order as markOrder, marked}
 use Rattle.marking.specs.Figures.{stationTold}
+use Rattle.sheet.specs.Writing.{writeLines}
 use Rattle.telling.specs.declared.SheetTold.{SheetTold}
+use Rattle.telling.specs.declared.WrittenTold.{WrittenTold}
 use Rattle.telling.specs.declared.ReadingTold.{ReadingTold}
 use Rattle.telling.specs.declared.BurnTold.{BurnTold}
 use Rattle.telling.specs.declared.HeatTold.{HeatTold}
@@ -40,7 +42,7 @@ use Rattle.telling.specs.declared.WalkTold.{WalkTold}
 use Rattle.telling.specs.declared.StationTold.{StationTold}
 use Rattle.telling.specs.declared.MarkTold.{MarkTold}
 use Rattle.telling.specs.Flat.{number, row, placed, flatSheet, flatReading, flatBurn, flatHeat, flatStation, flatMark, flatBegun, flatUnbegun, flatWalk, typedOf}
-use Rattle.capi.specs.Lent.{SheetIs, BuiltInIs, TemperatureIs, PsiIs, WalkIs}
+use Rattle.capi.specs.Lent.{SheetIs, BuiltInIs, WrittenIs, TemperatureIs, PsiIs, WalkIs}
 use Rattle.capi.specs.Demand1.{lineRow, linePlaced, numbered, FlatDemand1, WalkDemand1}
 
 -- ---- once over any order
@@ -82,6 +84,9 @@ demand-1-gaskeys_judge_sheet s r e = rw e (flat-demand-1 _ tt refl)
 
 pub «demand-1-gaskeys_built_in_sheet» : {before later : List ℕ} {r : SheetTold} → BuiltInIs before r later → FlatDemand1 (1 when notLong before ∷ []) (r .refusal) (r .row) (r .placed)
 «demand-1-gaskeys_built_in_sheet» h = rw (h .told) (flat-demand-1 _ tt refl)
+
+pub demand-1-gaskeys_write_sheet : {s before later : List ℕ} {r : WrittenTold} → WrittenIs s before r later → FlatDemand1 (writeLines s before) (r .refusal) (r .row) (r .placed)
+demand-1-gaskeys_write_sheet h = rw (h .told) (flat-demand-1 _ _ refl)
 
 -- ---- air
 pub demand-1-gaskeys_air_heat : (mk : ℤ) (r : ReadingTold) → r ≡ flatReading (airHeatTold mk) → FlatDemand1 (6 when outside (pos coldest) (pos hottest) mk ∷ []) (r .refusal) (r .row) (r .placed)

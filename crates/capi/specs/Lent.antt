@@ -8,7 +8,9 @@ use Rattle.refusal.specs.Refusals.{Told, gives, refused, _when_, first}
 use Rattle.air.specs.Inverse.{looks, written}
 use Rattle.air.specs.Answers.{psiValue, psiInverseTold}
 use Rattle.sheet.specs.Sheet.{notLong}
+use Rattle.sheet_text.specs.Text.{sheetText}
 use Rattle.sheet.specs.Answers.{Form, readTold, numbersOf, sheetLines}
+use Rattle.sheet.specs.Writing.{writeTold, bufferAfter}
 use Rattle.built_in.specs.BuiltIn.{builtIn}
 use Rattle.burning.specs.declared.Charge.{Charge}
 use Rattle.burning.specs.Burning.{Weights, document01, gasOf}
@@ -17,10 +19,11 @@ use Rattle.gas.specs.Answers.{temperatureTold}
 use Rattle.walk.specs.Lists.{Lists}
 use Rattle.walk.specs.Walk.{Trace, walkedInto, course, filled}
 use Rattle.telling.specs.declared.SheetTold.{SheetTold}
+use Rattle.telling.specs.declared.WrittenTold.{WrittenTold}
 use Rattle.telling.specs.declared.TemperatureTold.{TemperatureTold}
 use Rattle.telling.specs.declared.PsiTold.{PsiTold}
 use Rattle.telling.specs.declared.WalkTold.{WalkTold}
-use Rattle.telling.specs.Flat.{flatSheet, flatTemperature, flatPsi, flatWalk}
+use Rattle.telling.specs.Flat.{flatSheet, flatWritten, flatTemperature, flatPsi, flatWalk}
 
 -- the list of a sheet after a call that fills it: all numbers of the sheet, and unchanged by a refusal
 abbrev pub listTold : Told (Unit {0}) → List ℕ → List ℕ → List ℕ
@@ -39,6 +42,10 @@ builtInTold before = first (1 when notLong before ∷ []) tt
 pub record BuiltInIs (before : List ℕ) (r : SheetTold) (later : List ℕ) : Type 0 where
   pub told : r ≡ flatSheet (builtInTold before)
   pub list : later ≡ listTold (builtInTold before) builtIn before
+
+pub record WrittenIs (s before : List ℕ) (r : WrittenTold) (later : List ℕ) : Type 0 where
+  pub told : r ≡ flatWritten (writeTold s before)
+  pub buffer : later ≡ bufferAfter (writeTold s before) (sheetText s) before
 
 pub record TemperatureIs (w : Weights) (ch : Charge) (target : ℤ) (s before : List ℕ) (r : TemperatureTold) (after : List ℕ) : Type 0 where
   pub told : r ≡ flatTemperature (temperatureTold w ch target s (length before))

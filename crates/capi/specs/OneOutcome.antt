@@ -17,6 +17,7 @@ use Rattle.walk.specs.Walk.{Trace}
 use Rattle.marking.specs.Marking.{marked}
 use Rattle.marking.specs.Figures.{stationTold}
 use Rattle.telling.specs.declared.SheetTold.{SheetTold}
+use Rattle.telling.specs.declared.WrittenTold.{WrittenTold}
 use Rattle.telling.specs.declared.ReadingTold.{ReadingTold}
 use Rattle.telling.specs.declared.BurnTold.{BurnTold}
 use Rattle.telling.specs.declared.HeatTold.{HeatTold}
@@ -26,7 +27,7 @@ use Rattle.telling.specs.declared.WalkTold.{WalkTold}
 use Rattle.telling.specs.declared.StationTold.{StationTold}
 use Rattle.telling.specs.declared.MarkTold.{MarkTold}
 use Rattle.telling.specs.Flat.{flatSheet, flatReading, flatBurn, flatHeat, flatStation, flatMark, typedOf}
-use Rattle.capi.specs.Lent.{listTold, SheetIs, BuiltInIs, TemperatureIs, PsiIs, WalkIs}
+use Rattle.capi.specs.Lent.{listTold, SheetIs, BuiltInIs, WrittenIs, TemperatureIs, PsiIs, WalkIs}
 
 pub «one-gaskeys_version_1» : (r q : ℕ) → r ≡ 1 → q ≡ 1 → r ≡ q
 «one-gaskeys_version_1» r q p o = p ∙ sym o
@@ -42,6 +43,9 @@ one-gaskeys_judge_sheet s r q p o = p ∙ sym o
 
 pub «one-gaskeys_built_in_sheet» : {before later after : List ℕ} {r q : SheetTold} → BuiltInIs before r later → BuiltInIs before q after → (r ≡ q) × (later ≡ after)
 «one-gaskeys_built_in_sheet» p o = (p .told ∙ sym (o .told), p .list ∙ sym (o .list))
+
+pub one-gaskeys_write_sheet : {s before later after : List ℕ} {r q : WrittenTold} → WrittenIs s before r later → WrittenIs s before q after → (r ≡ q) × (later ≡ after)
+one-gaskeys_write_sheet p o = (p .told ∙ sym (o .told), p .buffer ∙ sym (o .buffer))
 
 pub one-gaskeys_air_heat : (mk : ℤ) (r q : ReadingTold) → r ≡ flatReading (airHeatTold mk) → q ≡ flatReading (airHeatTold mk) → r ≡ q
 one-gaskeys_air_heat mk r q p o = p ∙ sym o

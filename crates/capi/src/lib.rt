@@ -15,6 +15,7 @@ use telling::SheetTold;
 use telling::StationTold;
 use telling::TemperatureTold;
 use telling::WalkTold;
+use telling::WrittenTold;
 ghost use mathlib.Core.Path.{_≡_};
 ghost use mathlib.Core.List.{[], _∷_};
 ghost use Rattle.air.specs.Answers.{airHeatTold, psiTold as airPsiTold, cpTold as airCpTold};
@@ -26,7 +27,7 @@ ghost use Rattle.walk.specs.Lists.{lists};
 ghost use Rattle.marking.specs.Marking.{marked};
 ghost use Rattle.marking.specs.Figures.{stationTold};
 ghost use Rattle.telling.specs.Flat.{flatSheet, flatBurn, flatHeat, flatReading, flatStation, flatMark, typedOf};
-ghost use Rattle.capi.specs.Lent.{SheetIs, BuiltInIs, TemperatureIs, PsiIs, WalkCall};
+ghost use Rattle.capi.specs.Lent.{SheetIs, BuiltInIs, WrittenIs, TemperatureIs, PsiIs, WalkCall};
 
 // up by one where a list or a struct changes its meaning
 const VERSION: u32 = 1;
@@ -70,6 +71,14 @@ pub extern "C" fn gaskeys_built_in_sheet(list: &mut [u32]) -> SheetTold
         row: 0,
         placed: 0,
     }
+}
+
+// Writes the text of a sheet list into a buffer, from its first place on.
+#[no_mangle]
+pub extern "C" fn gaskeys_write_sheet(list: &[u32], text: &mut [u8]) -> WrittenTold
+    ensures { λ r. ⌜ WrittenIs (now (list .entry)) (now (text .entry)) r (now (text .exit)) ⌝ }
+{
+    telling::tell_written(sheet::write_sheet(list, text))
 }
 
 // The heat of air per pound at a temperature, in 0.00001 C.H.U./lb.

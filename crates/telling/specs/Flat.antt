@@ -19,6 +19,7 @@ use Rattle.marking.specs.declared.Typed.{Typed}
 use Rattle.marking.specs.declared.Typed.the-variants.{Kelvins, Content, Blank}
 use Rattle.marking.specs.declared.StationFigure.{StationFigure}
 use Rattle.telling.specs.declared.SheetTold.{SheetTold}
+use Rattle.telling.specs.declared.WrittenTold.{WrittenTold}
 use Rattle.telling.specs.declared.ReadingTold.{ReadingTold}
 use Rattle.telling.specs.declared.BurnTold.{BurnTold}
 use Rattle.telling.specs.declared.HeatTold.{HeatTold}
@@ -58,6 +59,10 @@ valuesOr none (refused r) = none
 
 abbrev pub flatSheet : Told (Unit {0}) → SheetTold
 flatSheet t = record { refusal = number t; row = row t; placed = placed t }
+
+-- the bytes of a text that was written
+abbrev pub flatWritten : Told ℕ → WrittenTold
+flatWritten t = record { refusal = number t; row = row t; placed = placed t; bytes = valuesOr 0 t }
 
 -- a number read from the air table
 abbrev pub flatReading : Told ℕ → ReadingTold

@@ -13,17 +13,19 @@ use marking::StationAnswer;
 use marking::Typed;
 use refusal::Refusal;
 use sheet::SheetAnswer;
+use sheet::WriteAnswer;
 use walk::WalkAnswer;
 ghost use mathlib.Core.Path.{_≡_};
 ghost use Rattle.refusal.specs.Refusals.{refused};
 ghost use Rattle.air.specs.Answers.{paperReading, paperPsi};
 ghost use Rattle.sheet.specs.Answers.{paperSheet};
+ghost use Rattle.sheet.specs.Writing.{paperWrite};
 ghost use Rattle.burning.specs.Answers.{paperBurn};
 ghost use Rattle.gas.specs.Answers.{paperHeat, paperSpecific, paperTemperature};
 ghost use Rattle.walk.specs.Walk.{paperWalk};
 ghost use Rattle.marking.specs.Marking.{paperMark};
 ghost use Rattle.marking.specs.Figures.{paperStation};
-ghost use Rattle.telling.specs.Flat.{rowIn, placedIn, flatSheet, flatReading, flatBurn, flatHeat, flatTemperature, flatPsi, flatWalk, flatCourse, flatBegun, flatStation, flatMark, typedOf};
+ghost use Rattle.telling.specs.Flat.{rowIn, placedIn, flatSheet, flatWritten, flatReading, flatBurn, flatHeat, flatTemperature, flatPsi, flatWalk, flatCourse, flatBegun, flatStation, flatMark, typedOf};
 
 // What the calls that read, judge or give a sheet tell.
 #[repr(C)]
@@ -31,6 +33,15 @@ pub struct SheetTold {
     pub refusal: u32,
     pub row: u32,
     pub placed: u32,
+}
+
+// The bytes of a text that was written into a buffer.
+#[repr(C)]
+pub struct WrittenTold {
+    pub refusal: u32,
+    pub row: u32,
+    pub placed: u32,
+    pub bytes: usize,
 }
 
 // What a charge burns to, in mg.
@@ -163,6 +174,29 @@ pub fn tell_sheet(answer: SheetAnswer) -> SheetTold
             placed: 0,
         },
         SheetAnswer::Refused(r) => tell_refusal(r),
+    }
+}
+
+// A sheet written.
+pub fn tell_written(answer: WriteAnswer) -> WrittenTold
+    ensures { λ r. ⌜ r ≡ flatWritten (paperWrite answer) ⌝ }
+{
+    match answer {
+        WriteAnswer::Written(bytes) => WrittenTold {
+            refusal: 0,
+            row: NO_ROW,
+            placed: 0,
+            bytes,
+        },
+        WriteAnswer::Refused(r) => {
+            let told = tell_refusal(r);
+            WrittenTold {
+                refusal: told.refusal,
+                row: told.row,
+                placed: told.placed,
+                bytes: 0,
+            }
+        }
     }
 }
 
