@@ -1,4 +1,4 @@
-//! The forms of `keys` (docs/PROGRAM.md) that read requests, a question or a sheet file: what a run has to write.
+//! The forms of `keys` (docs/PROGRAM.md) that read requests, a question or a sheet file, or write a sheet: what a run has to write.
 
 use std::collections::BTreeMap;
 use std::path::Path;
@@ -77,7 +77,7 @@ impl Run {
         Ok(())
     }
 
-    /// What the run has to write. Its words are one of the three forms.
+    /// What the run has to write. Its words are one of the four forms.
     pub fn written(&self) -> Written {
         let words: Vec<&str> = self.words.iter().map(String::as_str).collect();
         let (form, sheet) = match words[..] {
@@ -89,7 +89,8 @@ impl Run {
             ["walk"] => walk_page(&self.input, sheet),
             ["walk", name] => walk_page(&String::from_utf8_lossy(&self.files[*name]), sheet),
             ["sheet", name] => verdict(Given::of(&self.files[*name])),
-            _ => panic!("{words:?} is no form that reads something"),
+            ["write"] => sheet_text(sheet),
+            _ => panic!("{words:?} is no form whose output is made here"),
         }
     }
 }
@@ -181,7 +182,8 @@ fn walk_page(question: &str, sheet: Given) -> Written {
     Written { output: printed(&outcome, &lent), error: sheet.said + &refused_for(&outcome) }
 }
 
-/// What a printed walk is refused for: the sheet, which alone has a row, the start or a step.
+/// What a printed walk is refused for: the sheet, which alone has a row, the start or a step. A sheet that is to be written is refused
+/// in the same words.
 fn refused_for(outcome: &Outcome) -> String {
     match outcome {
         Outcome::Done(..) => String::new(),
@@ -203,4 +205,15 @@ fn verdict(sheet: Given) -> Written {
         Err(refusal) => say_refused(&refusal) + "\n",
     };
     Written { output, error: sheet.said }
+}
+
+/// The text of the sheet and nothing else; of a refused one its refusal and nothing of a text.
+fn sheet_text(sheet: Given) -> Written {
+    match sheet.list {
+        Ok(list) => Written { output: sheet::text(&list), error: sheet.said },
+        Err(refusal) => Written {
+            output: say_refused(&refusal) + "\n",
+            error: sheet.said + &refused_for(&Outcome::Refused(refusal)),
+        },
+    }
 }

@@ -8,7 +8,7 @@ use crate::program::{Run, Written};
 use crate::trials::ask;
 
 /// The forms whose output is made; what the others write is in docs/PROGRAM.md and docs/FAILURES.md.
-const FORMS: [&str; 11] = [
+const FORMS: [&str; 14] = [
     "ask",
     "ask-refused",
     "ask-return",
@@ -20,6 +20,9 @@ const FORMS: [&str; 11] = [
     "walk-refused",
     "walk-return",
     "walk-start",
+    "write",
+    "write-file",
+    "write-refused",
 ];
 
 /// The worked examples: their folder, the form, the file of the input and that of the output.

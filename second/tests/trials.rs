@@ -63,7 +63,7 @@ fn a_seed_asks_many_of_each() {
         let asked = lines.filter(|line| line.split('\t').next() == Some(word)).count();
         assert!(asked >= least, "{word} {asked}");
     }
-    assert!(of("walk").count() >= 300 && of("sheet").count() >= 300);
+    assert!(of("walk").count() >= 300 && of("sheet").count() >= 300 && of("write").count() >= 150);
 }
 
 #[test]
@@ -86,6 +86,24 @@ fn a_seed_meets_every_refusal_of_the_program() {
         "value, q",
     ] {
         assert!(written().any(|written| written.error.contains(said)), "{said}");
+    }
+}
+
+#[test]
+fn a_seed_writes_the_shortest_sheet_and_the_longest_and_meets_both_refusals() {
+    let of_write = || made().iter().filter(|(run, _)| run.words[0] == "write");
+    let (refused, whole): (Vec<_>, Vec<_>) =
+        of_write().partition(|(_, written)| written.output.starts_with("refused"));
+    let lines = refused.iter().flat_map(|(_, written)| written.output.lines());
+    assert_eq!(numbers(lines, "refused", 1), [2, 3]);
+    assert!(refused.iter().any(|(_, written)| written.error.contains("has a carriage")));
+    assert!(refused.iter().all(|(_, written)| written.error.contains("the sheet is refused")));
+    for bytes in [19_011, 40_164, 46_026] {
+        assert!(whole.iter().any(|(_, written)| written.output.len() == bytes), "{bytes}");
+    }
+    for (run, written) in whole {
+        assert!(run.files.values().all(|text| written.output.as_bytes() == text));
+        assert_eq!(written.error, "");
     }
 }
 

@@ -43,6 +43,13 @@ pub(crate) fn say_return(verdict: SheetAnswer, text: &[u8]) {
     stream::say(&out, end);
 }
 
+// Says on standard error what the sheet was refused with, where it was.
+pub(crate) fn say_verdict(verdict: SheetAnswer) {
+    let mut out = io::buffer();
+    let end = pages::put_verdict_note(verdict, &mut out);
+    stream::say(&out, end);
+}
+
 // Places for the built-in example.
 fn example() -> [u8; pages::EXAMPLE_ROOM]
     ensures { λ r. ⌜ exampleRoom ≡ length r ⌝ }

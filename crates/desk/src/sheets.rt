@@ -1,8 +1,14 @@
-// Sheet files: read, judged once, reported. A good sheet has at most 46,026 bytes, so a longer text has its first bad byte among the first 65,536, and no more are read.
+// Sheet files: read, judged once, reported; and a sheet's text printed. A good sheet has at most 46,026 bytes, so a longer text has its first bad byte among the first
+// 65,536, and no more are read.
 use crate::arguments;
 use crate::pages;
+use sheet::SheetAnswer;
 use stream::Output;
 use stream::Text;
+ghost use mathlib.Core.Path.{_≡_};
+ghost use lib.ListN.{length};
+ghost use Rattle.sheet_text.specs.Limits.{mostText};
+ghost use Rattle.console.specs.Answers.{Judged};
 ghost use Rattle.stream.specs.Reading.{Filled};
 
 // Reads the file that an argument names into the buffer.
@@ -35,4 +41,21 @@ pub(crate) fn report(i: usize) {
         }
         Text::Unread => (),
     }
+}
+
+// Places for the text of a sheet.
+fn places() -> [u8; sheet_text::MOST_TEXT]
+    ensures { λ r. ⌜ mostText ≡ length r ⌝ }
+{
+    [0; sheet_text::MOST_TEXT]
+}
+
+// Prints the text of a sheet that was judged, or its refusal, which is said on standard error too: a text is often written to a file that nobody looks at.
+pub(crate) fn print(verdict: SheetAnswer, sheet: &[u32])
+    requires { ⌜ Judged verdict (now sheet) ⌝ }
+{
+    let mut out = places();
+    let end = forms::sheets::put_sheet(verdict, sheet, &mut out);
+    stream::flush(&out, Output::At(end));
+    pages::say_verdict(verdict);
 }

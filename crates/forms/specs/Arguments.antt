@@ -1,5 +1,5 @@
--- Which form of `keys` the arguments are (docs/PROGRAM.md): keys, keys walk [FILE], keys ask, keys sheet FILE, keys --help, -h and --version; at the end of the first
--- three `--sheet FILE` may stand.
+-- Which form of `keys` the arguments are (docs/PROGRAM.md): keys, keys walk [FILE], keys ask, keys write, keys sheet FILE, keys --help, -h and --version; at the end of the
+-- first four `--sheet FILE` may stand.
 use Prim.Native.Nat.{ℕ, suc, _+_}
 use mathlib.Core.Bool.{cond}
 use mathlib.Core.List.{List, [], _∷_}
@@ -7,12 +7,12 @@ use lib.Dec.{eqb, ltb}
 use lib.ListN.{length}
 use Rattle.fields.specs.Words.{Worded, _names_, namedBy}
 use Rattle.forms.specs.declared.arguments.Word.{Word}
-use Rattle.forms.specs.declared.arguments.Word.the-variants.{Ask, Walk, Sheet, Option, Help, Version, Other}
+use Rattle.forms.specs.declared.arguments.Word.the-variants.{Ask, Walk, Sheet, Write, Option, Help, Version, Other}
 use Rattle.forms.specs.declared.arguments.Words.{Words}
 use Rattle.forms.specs.declared.arguments.Named.{Named}
 use Rattle.forms.specs.declared.arguments.Named.the-variants.{Nothing, Argument}
 use Rattle.forms.specs.declared.arguments.Job.{Job}
-use Rattle.forms.specs.declared.arguments.Job.the-variants.{Example, Walk as WalkOf, Ask as AskOf}
+use Rattle.forms.specs.declared.arguments.Job.the-variants.{Example, Walk as WalkOf, Ask as AskOf, Write as WriteOf}
 use Rattle.forms.specs.declared.arguments.Form.{Form}
 use Rattle.forms.specs.declared.arguments.Form.the-variants.{Over, Sheet as SheetOf, Help as HelpOf, Version as VersionOf, Misplaced, Wrong}
 
@@ -22,6 +22,7 @@ words =
     "ask" names Ask
     ∷ "walk" names Walk
     ∷ "sheet" names Sheet
+    ∷ "write" names Write
     ∷ "--sheet" names Option
     ∷ "--help" names Help
     ∷ "-h" names Help
@@ -41,6 +42,7 @@ abbrev pub alone : Word → Named → Form
 alone Ask named = Over AskOf named
 alone Walk named = Over (WalkOf Nothing) named
 alone Sheet named = Wrong
+alone Write named = Over WriteOf named
 alone Option named = Wrong
 alone Help named = overNone HelpOf named
 alone Version named = overNone VersionOf named
@@ -51,6 +53,7 @@ abbrev pub withFile : Word → Named → Form
 withFile Ask named = Wrong
 withFile Walk named = Over (WalkOf (Argument 2)) named
 withFile Sheet named = overNone (SheetOf 2) named
+withFile Write named = Wrong
 withFile Option named = Wrong
 withFile Help named = Wrong
 withFile Version named = Wrong
@@ -81,6 +84,7 @@ optionAt i Option = i
 optionAt i Ask = 0
 optionAt i Walk = 0
 optionAt i Sheet = 0
+optionAt i Write = 0
 optionAt i Help = 0
 optionAt i Version = 0
 optionAt i Other = 0

@@ -20,6 +20,7 @@ usageText =
     bytesOf "keys walk [FILE]   prints the walk of a question, from FILE or standard input\n"
     ++ bytesOf "keys ask           answers requests, one a line, from standard input\n"
     ++ bytesOf "keys sheet FILE    judges a sheet file\n"
+    ++ bytesOf "keys write         prints the text of the sheet\n"
     ++ bytesOf "..   --sheet FILE  with another sheet than the built-in one\n"
 
 -- document 01's walk: A 1, no fuel, from 200,000 mK, two steps of heat alone
@@ -49,7 +50,7 @@ expected line = cond (eqb line 1) (bytesOf "A, c, h, mK\n") (bytesOf "c, h, calo
 abbrev pub lineBad : ℕ → List ℕ
 lineBad line = ((bytesOf "line " ++ decimal line) ++ bytesOf ": expected four whole numbers parted by tabs: ") ++ expected line
 
--- ---- whose refusal a printed walk ends in
+-- ---- whose refusal a printed walk ends in, or why no text is printed
 abbrev pub sheetNote : Refusal → List ℕ
 sheetNote (Plain number) = (bytesOf "the sheet is refused with " ++ decimal number) ++ bytesOf "\n"
 sheetNote (At number row) = ((bytesOf "the sheet is refused with " ++ decimal number) ++ bytesOf " at row ") ++ (decimal row ++ bytesOf "\n")
@@ -59,6 +60,11 @@ abbrev pub walkNote : Told Course → List ℕ
 walkNote (gives (done n ch mk)) = []
 walkNote (gives (stopped n number ch mk)) = ((bytesOf "step " ++ decimal (n + 1)) ++ bytesOf " is refused with ") ++ (decimal number ++ bytesOf "\n")
 walkNote (refused r) = (bytesOf "the start is refused with " ++ decimal (numberOf r)) ++ bytesOf "\n"
+
+-- what the sheet was refused with, nothing where it is good
+abbrev pub verdictNote : SheetAnswer → List ℕ
+verdictNote Good = []
+verdictNote (Refused r) = sheetNote r
 
 -- over a sheet that was refused no walk begins
 abbrev pub refusalNote : SheetAnswer → Told Course → List ℕ

@@ -11,6 +11,7 @@ pub enum Word {
     Ask,
     Walk,
     Sheet,
+    Write,
     Option,
     Help,
     Version,
@@ -29,11 +30,12 @@ pub enum Named {
     Argument(usize),
 }
 
-// What is done over a sheet: the example is printed, a walk is printed from a file or from standard input, requests are answered.
+// What is done over a sheet: the example is printed, a walk is printed from a file or from standard input, requests are answered, the sheet's text is printed.
 pub enum Job {
     Example,
     Walk(Named),
     Ask,
+    Write,
 }
 
 // A job over the sheet that is named, a sheet file to judge, how to go on, the version, a `--sheet FILE` that does not stand at the end, or arguments that are no form.
@@ -62,10 +64,11 @@ fn word_at(p: usize) -> Word
         0 => Word::Ask,
         1 => Word::Walk,
         2 => Word::Sheet,
-        3 => Word::Option,
-        4 => Word::Help,
+        3 => Word::Write,
+        4 => Word::Option,
         5 => Word::Help,
-        6 => Word::Version,
+        6 => Word::Help,
+        7 => Word::Version,
         _ => unnamed(p),
     }
 }
@@ -74,7 +77,10 @@ fn word_at(p: usize) -> Word
 fn word_of(text: &[u8]) -> Word
     ensures { λ r. ⌜ r ≡ wordOf (now (text .entry)) ⌝ }
 {
-    word_at(fields::position_in(text, b"ask\twalk\tsheet\t--sheet\t--help\t-h\t--version"))
+    word_at(fields::position_in(
+        text,
+        b"ask\twalk\tsheet\twrite\t--sheet\t--help\t-h\t--version",
+    ))
 }
 
 // No word seen.
@@ -96,6 +102,7 @@ fn option_at(i: usize, word: Word) -> usize
         Word::Ask => 0,
         Word::Walk => 0,
         Word::Sheet => 0,
+        Word::Write => 0,
         Word::Help => 0,
         Word::Version => 0,
         Word::Other => 0,
@@ -174,6 +181,7 @@ fn alone(word: Word, named: Named) -> Form
         Word::Ask => Form::Over(Job::Ask, named),
         Word::Walk => Form::Over(Job::Walk(Named::Nothing), named),
         Word::Sheet => Form::Wrong,
+        Word::Write => Form::Over(Job::Write, named),
         Word::Option => Form::Wrong,
         Word::Help => over_none(Form::Help, named),
         Word::Version => over_none(Form::Version, named),
@@ -189,6 +197,7 @@ fn with_file(word: Word, named: Named) -> Form
         Word::Ask => Form::Wrong,
         Word::Walk => Form::Over(Job::Walk(Named::Argument(2)), named),
         Word::Sheet => over_none(Form::Sheet(2), named),
+        Word::Write => Form::Wrong,
         Word::Option => Form::Wrong,
         Word::Help => Form::Wrong,
         Word::Version => Form::Wrong,

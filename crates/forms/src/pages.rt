@@ -14,10 +14,10 @@ ghost use Rattle.text.specs.Puts.{Puts, Stands};
 ghost use Rattle.walk.specs.Walk.{paperWalk};
 ghost use Rattle.console.specs.Answers.{Judged};
 ghost use Rattle.forms.specs.Limits.{usageRoom, exampleRoom, noteRoom};
-ghost use Rattle.forms.specs.Pages.{usageText, examplePage, versionText, misplacedText, rowReturned, lineReturned, expected, lineBad, sheetNote, walkNote, refusalNote, returnIn, returnNote};
+ghost use Rattle.forms.specs.Pages.{usageText, examplePage, versionText, misplacedText, rowReturned, lineReturned, expected, lineBad, sheetNote, verdictNote, walkNote, refusalNote, returnIn, returnNote};
 
 // the example is no longer: a printed walk, a line feed and how to go on (specs/Limits.antt)
-pub const EXAMPLE_ROOM: usize = console::PAGE_ROOM + 1 + 246;
+pub const EXAMPLE_ROOM: usize = console::PAGE_ROOM + 1 + 294;
 
 // How to go on.
 fn put_usage(out: &mut [u8], at: usize) -> usize
@@ -27,6 +27,7 @@ fn put_usage(out: &mut [u8], at: usize) -> usize
         b"keys walk [FILE]   prints the walk of a question, from FILE or standard input\n\
           keys ask           answers requests, one a line, from standard input\n\
           keys sheet FILE    judges a sheet file\n\
+          keys write         prints the text of the sheet\n\
           ..   --sheet FILE  with another sheet than the built-in one\n",
         out,
         at,
@@ -223,6 +224,17 @@ fn put_sheet_note(refusal: Refusal, out: &mut [u8]) -> usize
             );
             put_last(row, out, next)
         }
+    }
+}
+
+// What the sheet was refused with, where it was.
+pub fn put_verdict_note(verdict: SheetAnswer, out: &mut [u8]) -> usize
+    requires { ⌜ noteRoom ≤ length (now out) ⌝ }
+    ensures { λ r. ⌜ Stands (verdictNote verdict) (now (out .entry)) 0 r (now (out .exit)) ⌝ }
+{
+    match verdict {
+        SheetAnswer::Good => 0,
+        SheetAnswer::Refused(refusal) => put_sheet_note(refusal, out),
     }
 }
 

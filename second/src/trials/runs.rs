@@ -1,5 +1,5 @@
-//! Runs of `keys` made from a seed, each with what it has to write: requests of every kind over sheets of every kind, printed walks
-//! and judged sheet files.
+//! Runs of `keys` made from a seed, each with what it has to write: requests of every kind over sheets of every kind, printed walks,
+//! judged sheet files, and sheets written.
 
 use crate::dice::Dice;
 use crate::gas::Gases;
@@ -24,6 +24,7 @@ pub fn runs(seed: u64) -> Vec<(String, Run)> {
         ("bad-sheet", over_bad_sheets(dice)),
         ("walk", printed_walks(dice)),
         ("sheet", judged_sheets(dice)),
+        ("write", written_sheets(dice)),
     ];
     let named = |(kind, runs): (&str, Vec<Run>)| {
         let numbered = runs.into_iter().enumerate();
@@ -109,4 +110,18 @@ fn judged_sheets(dice: &mut Dice) -> Vec<Run> {
     texts.extend((0..300).map(|_| any_text(dice, &bases)));
     let judged = |text| Run::new(&["sheet", SHEET], String::new()).with(SHEET, text);
     texts.into_iter().map(judged).collect()
+}
+
+/// The built-in sheet written, and those of files: at both sides of each limit, accepted ones, random ones, one whose lines end as some
+/// editors end them, and any.
+fn written_sheets(dice: &mut Dice) -> Vec<Run> {
+    let bases = bases();
+    let mut texts = limit_texts();
+    texts.extend(accepted().iter().map(|list| sheet::text(list).into_bytes()));
+    texts.extend((0..60).map(|_| sheet::text(&random(dice)).into_bytes()));
+    texts.push(sheet::text(&random(dice)).replace('\n', "\r\n").into_bytes());
+    texts.extend((0..66).map(|_| any_text(dice, &bases)));
+    let over = |text| Run::new(&["write", "--sheet", SHEET], String::new()).with(SHEET, text);
+    let built_in = Run::new(&["write"], String::new());
+    [built_in].into_iter().chain(texts.into_iter().map(over)).collect()
 }

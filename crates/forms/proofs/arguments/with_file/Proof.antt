@@ -27,6 +27,9 @@ enum-told-6 c = search needs
 enum-told-7 : tie.Need-enum-told-7
 enum-told-7 c = search needs
 
+enum-told-8 : tie.Need-enum-told-8
+enum-told-8 c = search needs
+
 returns : tie.Need-returns
 returns c = search needs
 
@@ -48,7 +51,10 @@ returns-6 c = search needs
 returns-7 : tie.Need-returns-7
 returns-7 c = search needs
 
+returns-8 : tie.Need-returns-8
+returns-8 c = search needs
+
 pub with-file-spec : {M : Type 1} → statement M
 with-file-spec =
-    tie.close (tie.spec enum-told enum-told-2 enum-told-3 over-none-requires enum-told-4 enum-told-5 enum-told-6 enum-told-7 returns returns-2 returns-3 returns-4
-    returns-5 returns-6 returns-7)
+    tie.close (tie.spec enum-told enum-told-2 enum-told-3 over-none-requires enum-told-4 enum-told-5 enum-told-6 enum-told-7 enum-told-8 returns returns-2 returns-3
+    returns-4 returns-5 returns-6 returns-7 returns-8)

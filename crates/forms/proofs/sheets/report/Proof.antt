@@ -1,6 +1,6 @@
--- `report`: the verdict of the bytes, and its words with a line feed (`puts-then`), and nothing is cut (`puts-whole`).
-use Rattle.text.specs.PutsLaws.{puts-text, puts-then, puts-whole}
+-- `report`: the verdict of the bytes, and its line, of which nothing is cut (`puts-whole`).
 use native.Mathlib.Omega.{arith}
+use Rattle.text.specs.PutsLaws.{puts-whole}
 use borrow.Author.Needs.{needs}
 use Rattle.forms.proofs.sheets.report.Statement.{statement}
 use Rattle.forms.proofs.sheets.report.Tie as tie
@@ -8,11 +8,8 @@ use Rattle.forms.proofs.sheets.report.Tie as tie
 judge-requires : tie.Need-judge-requires
 judge-requires c κs = search needs
 
-put-word-requires : tie.Need-put-word-requires
-put-word-requires c κs = search needs
-
-put-byte-requires : tie.Need-put-byte-requires
-put-byte-requires c κs = search needs
+put-verdict-requires : tie.Need-put-verdict-requires
+put-verdict-requires c κs = search needs
 
 same-length : tie.Need-same-length
 same-length c = search needs
@@ -21,12 +18,8 @@ same-length-2 : tie.Need-same-length-2
 same-length-2 c = search needs
 
 returns : tie.Need-returns
-returns c =
-    let at-put-word = c .before .before .before .before .before .before in
-    let at-judge = at-put-word .before .before .before .before in
-    record { judged = at-judge .judge .ensures; line = puts-whole (omega arith) (puts-then (at-put-word .put-word .ensures) (puts-text (c .before .before .put-byte .ensures))) }
+returns c = record { judged = c .before .before .before .before .before .before .judge .ensures; line = puts-whole (omega arith) (c .before .before .put-verdict .ensures) }
 
 pub report-spec : {M : Type 1} → statement M
 report-spec =
-    tie.close
-    (tie.spec judge-requires put-word-requires put-byte-requires same-length same-length-2 returns)
+    tie.close (tie.spec judge-requires put-verdict-requires same-length same-length-2 returns)
