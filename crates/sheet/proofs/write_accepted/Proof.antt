@@ -8,9 +8,7 @@ text-length-requires : tie.Need-text-length-requires
 text-length-requires c κs = search needs
 
 returns : tie.Need-returns
-returns c =
-    let start = c .before .before .before .before in
-    short-buffer (start .pre) (start .args .buf .now) (c .before .text-length .ensures) (c .if1 .taken)
+returns c = search (needs, short-buffer)
 
 write-text-requires : tie.Need-write-text-requires
 write-text-requires c κs = search needs
@@ -19,10 +17,7 @@ same-length : tie.Need-same-length
 same-length c = search needs
 
 returns-2 : tie.Need-returns-2
-returns-2 c =
-    let at-if1 = c .before .before .before .before in
-    let start = at-if1 .before .before .before .before in
-    whole-text (start .pre) (start .args .buf .now) (at-if1 .before .text-length .ensures) (at-if1 .if1 .left) (c .before .before .write-text .ensures)
+returns-2 c = search (needs, whole-text)
 
 pub write-accepted-spec : {M : Type 1} → statement M
 write-accepted-spec = tie.close (tie.spec text-length-requires returns write-text-requires same-length returns-2)

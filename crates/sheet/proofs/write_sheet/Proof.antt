@@ -1,7 +1,5 @@
 -- `write_sheet`: the list is judged first; a refusal of it is the answer (`bad-list`), and an accepted one is written.
-use mathlib.Core.Path.{sym, _∙_, ap}
 use borrow.Author.Needs.{needs}
-use Rattle.sheet.specs.Answers.{paperSheet}
 use Rattle.sheet.specs.AnswersLaws.{good-accepted}
 use Rattle.sheet.proofs.Written.{bad-list}
 use Rattle.sheet.proofs.write_sheet.Statement.{statement}
@@ -14,9 +12,7 @@ enum-told : tie.Need-enum-told
 enum-told c = search needs
 
 write-accepted-requires : tie.Need-write-accepted-requires
-write-accepted-requires c κs =
-    let at-judge = c .before .before .before in
-    good-accepted (at-judge .before .before .before .args .list .now) (at-judge .judge-sheet .ensures) (c .before .enum-told .given .1)
+write-accepted-requires c κs = search (needs, good-accepted)
 
 enum-known-refusal : tie.Need-enum-known-refusal
 enum-known-refusal c = search needs
@@ -28,10 +24,7 @@ returns : tie.Need-returns
 returns c = search needs
 
 returns-2 : tie.Need-returns-2
-returns-2 c =
-    let at-judge = c .before .before .before in
-    let start = at-judge .before .before .before in
-    bad-list (start .args .list .now) (start .args .buf .now) _ (ap paperSheet (sym (c .before .refusal .given .1)) ∙ at-judge .judge-sheet .ensures)
+returns-2 c = search (needs, bad-list)
 
 pub write-sheet-spec : {M : Type 1} → statement M
 write-sheet-spec =
