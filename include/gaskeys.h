@@ -26,7 +26,7 @@
  * may call at the same time.
  *
  * STACK: a thread with 48 KB of stack can make every call, and one with 24 KB every call but gaskeys_read_sheet. Measured were 30 KB for gaskeys_read_sheet and at most
- * 14 KB for any other, the thread's own 4 KB among them, before there was gaskeys_write_sheet; bindings/c/limits.c measures it again and passes NULL to every call.
+ * 14 KB for any other, the thread's own 4 KB among them; bindings/c/limits.c measures it again and passes NULL to every call.
  *
  * VERSION: GASKEYS_VERSION goes up whenever a list or a struct changes its meaning; a further call leaves it as it is. The archive has the symbol gaskeys_version_1, named
  * after the number, and every file that includes this header refers to it: what was compiled with the header of another version does not link.

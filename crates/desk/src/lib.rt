@@ -78,6 +78,6 @@ fn serve(
         Job::Example => pages::print_example(verdict, sheet, air),
         Job::Walk(named) => questions::print(named, verdict, sheet, air),
         Job::Ask => asking::ask(verdict, sheet, air, psis, cps),
-        Job::Write => sheets::print(verdict, sheet),
+        Job::Write => sheets::write(verdict, sheet),
     }
 }

@@ -44,17 +44,17 @@ pub(crate) fn report(i: usize) {
 }
 
 // Places for the text of a sheet.
-fn places() -> [u8; sheet_text::MOST_TEXT]
+fn sheet_places() -> [u8; sheet_text::MOST_TEXT]
     ensures { λ r. ⌜ mostText ≡ length r ⌝ }
 {
     [0; sheet_text::MOST_TEXT]
 }
 
 // Prints the text of a sheet that was judged, or its refusal, which is said on standard error too: a text is often written to a file that nobody looks at.
-pub(crate) fn print(verdict: SheetAnswer, sheet: &[u32])
+pub(crate) fn write(verdict: SheetAnswer, sheet: &[u32])
     requires { ⌜ Judged verdict (now sheet) ⌝ }
 {
-    let mut out = places();
+    let mut out = sheet_places();
     let end = forms::sheets::put_sheet(verdict, sheet, &mut out);
     stream::flush(&out, Output::At(end));
     pages::say_verdict(verdict);
