@@ -58,36 +58,31 @@ kelvin-digits r h = go (ltb r threeDigits) refl
     go false e = let l : threeDigits ≤ r = ltb-false _ _ e in omega (arith, digits-are 3 (firstKelvin + r) (λ q. omega arith) (omega arith))
 
 -- ---- the first rows, where every figure has at least, or at most, so many digits
-module _ (l : List ℕ) (d : ℕ) where
-  pub rows-least : ((i : ℕ) → i < sheetNumbers → d ≤ length (decimal (getD l i 0))) → (r : ℕ) → r ≤ tableRows → r * (7 + 3 * d) + (r - threeDigits) ≤ length (rowsOf r l)
-  rows-least h zero q = omega arith
-  rows-least h (suc r) q =
-      omega (
-        arith,
-        rows-least h r (omega arith),
-        suc-mul r (7 + 3 * d),
-        length-append (rowsOf r l) (rowAt l r),
-        row-length (firstKelvin + r) (getD l (3 * r) 0) (getD l (3 * r + 1) 0) (getD l (3 * r + 2) 0),
-        kelvin-digits r (omega arith),
-        h (3 * r) (omega arith),
-        h (3 * r + 1) (omega arith),
-        h (3 * r + 2) (omega arith),
-      )
+module _ (l : List ℕ) where
+  abbrev digitsAt : ℕ → ℕ
+  digitsAt i = length (decimal (getD l i 0))
 
-  pub rows-most : ((i : ℕ) → i < sheetNumbers → length (decimal (getD l i 0)) ≤ d) → (r : ℕ) → r ≤ tableRows → length (rowsOf r l) ≤ r * (7 + 3 * d) + (r - threeDigits)
-  rows-most h zero q = omega arith
-  rows-most h (suc r) q =
-      omega (
-        arith,
-        rows-most h r (omega arith),
-        suc-mul r (7 + 3 * d),
-        length-append (rowsOf r l) (rowAt l r),
-        row-length (firstKelvin + r) (getD l (3 * r) 0) (getD l (3 * r + 1) 0) (getD l (3 * r + 2) 0),
-        kelvin-digits r (omega arith),
-        h (3 * r) (omega arith),
-        h (3 * r + 1) (omega arith),
-        h (3 * r + 2) (omega arith),
-      )
+  one-row-more : (r : ℕ) → r < tableRows
+      → length (rowsOf (suc r) l) + (r - threeDigits) ≡ length (rowsOf r l) + (suc r - threeDigits) + 7 + digitsAt (3 * r) + digitsAt (3 * r + 1) + digitsAt (3 * r + 2)
+  one-row-more r h =
+      omega (arith, length-append (rowsOf r l) (rowAt l r), row-length (firstKelvin + r) (getD l (3 * r) 0) (getD l (3 * r + 1) 0) (getD l (3 * r + 2) 0), kelvin-digits r h)
+
+  module _ (d : ℕ) where
+    pub rows-least : ((i : ℕ) → i < sheetNumbers → d ≤ digitsAt i) → (r : ℕ) → r ≤ tableRows → r * (7 + 3 * d) + (r - threeDigits) ≤ length (rowsOf r l)
+    rows-least h zero q = omega arith
+    rows-least h (suc r) q =
+        let a = h (3 * r) (omega arith) in
+        let b = h (3 * r + 1) (omega arith) in
+        let c = h (3 * r + 2) (omega arith) in
+        omega (arith, rows-least h r (omega arith), suc-mul r (7 + 3 * d), one-row-more r (omega arith))
+
+    pub rows-most : ((i : ℕ) → i < sheetNumbers → digitsAt i ≤ d) → (r : ℕ) → r ≤ tableRows → length (rowsOf r l) ≤ r * (7 + 3 * d) + (r - threeDigits)
+    rows-most h zero q = omega arith
+    rows-most h (suc r) q =
+        let a = h (3 * r) (omega arith) in
+        let b = h (3 * r + 1) (omega arith) in
+        let c = h (3 * r + 2) (omega arith) in
+        omega (arith, rows-most h r (omega arith), suc-mul r (7 + 3 * d), one-row-more r (omega arith))
 
 -- ---- the whole text
 module _ (l : List ℕ) where
