@@ -28,25 +28,12 @@ fn row_bytes(list: &[u32], row: usize) -> usize {
 }
 
 fn digits(n: u64) -> usize {
-    if n < 10 {
-        return 1;
+    let (tenth, mut unit, mut count) = (n / 10, 1, 1);
+    while unit <= tenth {
+        unit *= 10;
+        count += 1;
     }
-    if n < 100 {
-        return 2;
-    }
-    if n < 1_000 {
-        return 3;
-    }
-    if n < 10_000 {
-        return 4;
-    }
-    if n < 100_000 {
-        return 5;
-    }
-    if n < 1_000_000 {
-        return 6;
-    }
-    6 + digits(n / 1_000_000)
+    count
 }
 
 /// A row before a place, and where it begins.
