@@ -25,7 +25,7 @@ use Rattle.sheet.specs.SheetLaws.{accepted-numbers, KeepsStepRule, accep
 use Rattle.sheet.specs.Answers.{SheetRead, sheetLines, judgeTold}
 use Rattle.sheet.specs.AnswersLaws.{read-of-sheet, sheet-of-read, accepted-of-told, past-sheet}
 use Rattle.sheet.specs.OneOutcome.{one-written}
-use Rattle.sheet.specs.Writing.{paperWrite, writeLines, writeTold, bufferAfter, SheetWritten}
+use Rattle.sheet.specs.Writing.{writeLines, writeTold, bufferAfter, SheetWritten}
 use Rattle.sheet.specs.ExampleSheets.{laid, flat, oneMore}
 use Rattle.sheet.specs.ExampleSheetsLaws.{flat-accepted, flat-figure, one-more-numbers, one-more-refused}
 

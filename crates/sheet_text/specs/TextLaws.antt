@@ -13,7 +13,7 @@ use borrow.Author.Tests.{ltb-true, ltb-false}
 use Rattle.rows.specs.Limits.{firstKelvin, tableRows}
 use Rattle.text.specs.Decimal.{decimal, tenTo}
 use Rattle.text.specs.DigitsLaws.{digits-are, digits-some, digits-most}
-use Rattle.sheet_text.specs.Limits.{mostFigure, sheetNumbers, leastText, mostText}
+use Rattle.sheet_text.specs.Limits.{sheetNumbers, leastText, mostText}
 use Rattle.sheet_text.specs.Text.{rowText, rowsOf, sheetText, textLength, Numbers}
 
 -- ---- a row, field by field
