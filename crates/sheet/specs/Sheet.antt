@@ -3,10 +3,10 @@
 use mathlib.Core.Path.{_≡_}
 use mathlib.Core.Bool.{Bool, false, not, _||_, cond}
 use mathlib.Core.List.{List}
-use Prim.Native.Nat.{ℕ, zero, suc, _+_, _-_, _*_, _<_}
+use Prim.Native.Nat.{ℕ, zero, suc, _+_, _-_, _*_, _≤_, _<_}
 use lib.Dec.{ltb, eqb}
 use lib.ListN.{length, getD}
-use Rattle.rows.specs.Limits.{firstKelvin, tableRows}
+use Rattle.rows.specs.Limits.{firstKelvin, lastKelvin, tableRows}
 use Rattle.rows.specs.Table.{airH}
 use Rattle.sheet_text.specs.Limits.{mostFigure, sheetNumbers}
 
@@ -37,6 +37,10 @@ rise col k = col (suc k) - col k
 
 unfoldable pub breaksStep : List ℕ → ℕ → Bool
 breaksStep s k = falls (o2 s) k || (falls (co2 s) k || (falls (h2o s) k || ltb (4 * rise airH k) (rise (o2 s) k)))
+
+-- the list keeps it from each kelvin to the next
+pub record KeepsStepRule (s : List ℕ) : Type 0 where
+  pub kept : (k : ℕ) → firstKelvin ≤ k → k < lastKelvin → breaksStep s k ≡ false
 
 -- a row is bad if it holds a value over 200,000 or breaks the step rule against the row before it
 abbrev pub badRow : List ℕ → ℕ → Bool

@@ -14,7 +14,7 @@ use Rattle.rows.specs.Limits.{firstKelvin, lastKelvin, tableRows}
 use Rattle.rows.specs.Table.{airH}
 use Rattle.sheet_text.specs.Limits.{mostFigure, sheetNumbers}
 use Rattle.sheet_text.specs.Text.{Numbers}
-use Rattle.sheet.specs.Sheet.{o2, co2, h2o, overLimit, falls, rise, breaksStep, badRow, firstFrom, firstBadRow, Accepted}
+use Rattle.sheet.specs.Sheet.{o2, co2, h2o, overLimit, falls, rise, breaksStep, KeepsStepRule, badRow, firstFrom, firstBadRow, Accepted}
 use Rattle.refusal.specs.BoolLaws.{neither}
 use Rattle.air.specs.Readings.{NeverFalls}
 
@@ -149,10 +149,7 @@ module _ {s : List ℕ} (long : length s ≡ sheetNumbers) (limit : (k : ℕ) �
 pub accepted-numbers : {s : List ℕ} → Accepted s → Numbers s
 accepted-numbers a = limit-numbers (a .long) (accepted-limit a)
 
--- and accepted where it keeps the step rule from each kelvin to the next
-pub record KeepsStepRule (s : List ℕ) : Type 0 where
-  pub kept : (k : ℕ) → firstKelvin ≤ k → k < lastKelvin → breaksStep s k ≡ false
-
+-- and accepted where it keeps the step rule
 module _ {s : List ℕ} (g : Numbers s) where
   numbers-limit : (k : ℕ) → InLimit s k
   unfolding o2 co2 h2o

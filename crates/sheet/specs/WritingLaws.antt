@@ -20,8 +20,8 @@ use Rattle.sheet.specs.declared.SheetAnswer.{SheetAnswer}
 use Rattle.sheet.specs.declared.SheetAnswer.the-variants.{Good}
 use Rattle.sheet.specs.declared.WriteAnswer.{WriteAnswer}
 use Rattle.sheet.specs.declared.WriteAnswer.the-variants.{Written, Refused}
-use Rattle.sheet.specs.Sheet.{Accepted}
-use Rattle.sheet.specs.SheetLaws.{accepted-numbers, KeepsStepRule, accepted-of-rule}
+use Rattle.sheet.specs.Sheet.{KeepsStepRule, Accepted}
+use Rattle.sheet.specs.SheetLaws.{accepted-numbers, accepted-of-rule}
 use Rattle.sheet.specs.Answers.{SheetRead, sheetLines, judgeTold}
 use Rattle.sheet.specs.AnswersLaws.{read-of-sheet, sheet-of-read, accepted-of-told, past-sheet}
 use Rattle.sheet.specs.OneOutcome.{one-written}

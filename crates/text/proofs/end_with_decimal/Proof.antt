@@ -1,12 +1,13 @@
 -- `end_with_decimal`: the last digit, then before it those of a tenth of the number, down to one digit (`last-digit`, `one-digit`).
 -- Invariant: of the number's digits those behind what is left of it stand before the place. Measure: what is left.
+use mathlib.Core.List.{[]}
 use Prim.Native.Nat.{_≤_}
 use native.Mathlib.Omega.{arith}
 use Rattle.text.specs.Decimal.{decimal}
 use Rattle.text.specs.DecimalLaws.{one-digit, last-digit}
 use Rattle.text.specs.DigitsLaws.{digits-some}
 use Rattle.text.specs.Puts.{Behind}
-use Rattle.text.specs.PutsLaws.{stands-length, behind-all, behind-more, behind-last, behind-room, behind-inside}
+use Rattle.text.specs.PutsLaws.{stands-length, behind-all, behind-more, behind-nothing, behind-room, behind-inside}
 use Rattle.text.proofs.end_with_decimal.Statement.{statement}
 use Rattle.text.proofs.end_with_decimal.Tie as tie
 
@@ -57,7 +58,7 @@ same-length c = omega (arith, stands-length (c .before .before .end-with-byte2 .
 returns : tie.Need-returns Inv-loop μ-loop
 returns c =
     let l = c .before .before .before .before .before .loop in
-    behind-last (rw (one-digit (l .rest) (omega arith)) at (l .inv .1)) (c .before .before .end-with-byte2 .ensures)
+    behind-nothing (behind-more {xs = []} (rw (one-digit (l .rest) (omega arith)) at (l .inv .1)) (c .before .before .end-with-byte2 .ensures))
 
 pub end-with-decimal-spec : {M : Type 1} → statement M
 end-with-decimal-spec =
