@@ -28,8 +28,9 @@
  * STACK: a thread with 48 KB of stack can make every call, and one with 24 KB every call but gaskeys_read_sheet. Measured were 30 KB for gaskeys_read_sheet and at most
  * 14 KB for any other, the thread's own 4 KB among them; bindings/c/limits.c measures it again and passes NULL to every call.
  *
- * VERSION: GASKEYS_VERSION goes up whenever a list or a struct changes its meaning; a further call leaves it as it is. The archive has the symbol gaskeys_version_1, named
- * after the number, and every file that includes this header refers to it: what was compiled with the header of another version does not link.
+ * VERSION: GASKEYS_VERSION goes up whenever a number, a list or a struct changes its meaning; a further call leaves it as it is. The archive has the symbol
+ * gaskeys_version_2, named after the number, and every file that includes this header refers to it: what was compiled with the header of another version does not link.
+ * Version 2 rounds a specific content to the nearest whole number; keys of specific contents that were made before are to be made again.
  */
 #ifndef GASKEYS_H
 #define GASKEYS_H
@@ -43,10 +44,10 @@ extern "C" {
 
 /* ---- the version ---- */
 
-#define GASKEYS_VERSION 1
+#define GASKEYS_VERSION 2
 
-/* Gives 1. */
-uint32_t gaskeys_version_1(void);
+/* Gives 2. */
+uint32_t gaskeys_version_2(void);
 
 /* The reference to it, kept also where nothing uses it. */
 #define GASKEYS_KEPT __attribute__((used))
@@ -56,7 +57,7 @@ uint32_t gaskeys_version_1(void);
 #define GASKEYS_KEPT __attribute__((used, retain))
 #endif
 #endif
-static uint32_t (*const gaskeys_linked_version)(void) GASKEYS_KEPT = gaskeys_version_1;
+static uint32_t (*const gaskeys_linked_version)(void) GASKEYS_KEPT = gaskeys_version_2;
 
 /* ---- refusals ---- */
 
@@ -166,7 +167,7 @@ gaskeys_heat_told gaskeys_gas_heat(int64_t air, int64_t carbon, int64_t hydrogen
  * Refusals: 1, 3, 4, 5, 6. */
 gaskeys_heat_told gaskeys_content(int64_t air, int64_t carbon, int64_t hydrogen, int64_t millikelvin, const uint32_t *sheet, size_t sheet_length);
 
-/* Its specific content: the content divided by the total mass, the fraction dropped toward zero (-23.8 is -23).
+/* Its specific content: the content divided by the total mass, to the nearest whole number, a tie to the even one (-23.8 is -24).
  * Refusals: 1, 3, 4, 5, 6. */
 gaskeys_heat_told gaskeys_specific_content(int64_t air, int64_t carbon, int64_t hydrogen, int64_t millikelvin, const uint32_t *sheet, size_t sheet_length);
 
@@ -230,7 +231,7 @@ typedef struct {
     uint32_t row;
     uint32_t placed;
     double millikelvin; /* whole numbers all three, below 2^53 in size: the difference of two like figures is exact */
-    double content;     /* specific content above 15 degrees C, in 0.00001 C.H.U./lb, the fraction dropped toward zero */
+    double content;     /* specific content above 15 degrees C, in 0.00001 C.H.U./lb, to the nearest whole number, a tie to the even one (-23.8 is -24) */
     double mass;        /* total mass in mg */
 } gaskeys_station_told;
 

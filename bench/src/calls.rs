@@ -1,7 +1,8 @@
 //! The calls of one side, and what a row of the table asks of them.
 
 use gaskeys::raw::{
-    self, MarkTold, PsiTold, SheetTold, StationTold, TemperatureTold, WalkTold, WrittenTold,
+    self, HeatTold, MarkTold, PsiTold, SheetTold, StationTold, TemperatureTold, WalkTold,
+    WrittenTold,
 };
 use gaskeys::SHEET_TEXT_MOST;
 use second::gas::Charge;
@@ -11,6 +12,7 @@ pub struct Calls {
     pub read_sheet: unsafe extern "C" fn(*const u8, usize, *mut u32, usize) -> SheetTold,
     pub judge_sheet: unsafe extern "C" fn(*const u32, usize) -> SheetTold,
     pub write_sheet: unsafe extern "C" fn(*const u32, usize, *mut u8, usize) -> WrittenTold,
+    pub specific_content: unsafe extern "C" fn(i64, i64, i64, i64, *const u32, usize) -> HeatTold,
     pub temperature: unsafe extern "C" fn(
         i64,
         i64,
@@ -46,6 +48,7 @@ pub const PROVED: Calls = Calls {
     read_sheet: raw::gaskeys_read_sheet,
     judge_sheet: raw::gaskeys_judge_sheet,
     write_sheet: raw::gaskeys_write_sheet,
+    specific_content: raw::gaskeys_specific_content,
     temperature: raw::gaskeys_temperature,
     psi_inverse: raw::gaskeys_psi_inverse,
     walk: raw::gaskeys_walk,
@@ -60,6 +63,7 @@ pub type Walk = (Charge, i64, Vec<i64>);
 pub enum Inputs {
     Walks(Vec<Walk>),
     Heats(Vec<(Charge, i64)>),
+    Specifics(Vec<(Charge, i64)>),
     Stations(Vec<(Charge, i64)>),
     Sheet,
     Text(Vec<u8>),
@@ -72,7 +76,9 @@ impl Inputs {
     pub fn count(&self) -> usize {
         match self {
             Inputs::Walks(walks) => walks.len(),
-            Inputs::Heats(inputs) | Inputs::Stations(inputs) => inputs.len(),
+            Inputs::Heats(inputs) | Inputs::Specifics(inputs) | Inputs::Stations(inputs) => {
+                inputs.len()
+            }
             Inputs::Sheet | Inputs::Text(_) | Inputs::Written => 1,
             Inputs::Psis(targets) => targets.len(),
             Inputs::Marks(inputs) => inputs.len(),
@@ -115,6 +121,11 @@ pub fn ask(calls: &Calls, inputs: &Inputs, i: usize, lists: &mut Lists) -> u64 {
                 let (Charge { air, carbon, hydrogen }, target) = inputs[i];
                 let told = (calls.temperature)(air, carbon, hydrogen, target, sheet, n, looks, 11);
                 mix(&[told.refusal as i64, told.millikelvin, told.rest, lists.looks[9] as i64])
+            }
+            Inputs::Specifics(inputs) => {
+                let (Charge { air, carbon, hydrogen }, mk) = inputs[i];
+                let told = (calls.specific_content)(air, carbon, hydrogen, mk, sheet, n);
+                mix(&[told.refusal as i64, told.heat])
             }
             Inputs::Stations(inputs) => {
                 let (Charge { air, carbon, hydrogen }, mk) = inputs[i];

@@ -16,7 +16,8 @@ pub fn rows(list: &[u32]) -> Vec<(&'static str, Inputs)> {
         ("walk of 64 steps", Inputs::Walks(walks(dice, &gases, INPUTS, 64))),
         ("walk of 1 step", Inputs::Walks(walks(dice, &gases, INPUTS, 1))),
         ("temperature of a heat", Inputs::Heats(draw(|| heat(dice, &gases)))),
-        ("station", Inputs::Stations(draw(|| (lean(dice), dice.from_to(200_000, 2_000_000))))),
+        ("specific content", Inputs::Specifics(draw(|| state(dice)))),
+        ("station", Inputs::Stations(draw(|| state(dice)))),
         ("sheet judged", Inputs::Sheet),
         ("sheet read", Inputs::Text(sheet::text(list).into_bytes())),
         ("sheet written", Inputs::Written),
@@ -35,6 +36,11 @@ pub fn lean(dice: &mut Dice) -> Charge {
     let carbon = dice.from_to(0, air * 23_186 / 96_000);
     let hydrogen = dice.from_to(0, (air * 23_186 - 32_000 * carbon) / 16_000);
     Charge { air, carbon, hydrogen }
+}
+
+/// A charge and a temperature.
+fn state(dice: &mut Dice) -> (Charge, i64) {
+    (lean(dice), dice.from_to(200_000, 2_000_000))
 }
 
 /// A charge, and one more than its heat at a random temperature.

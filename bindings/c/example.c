@@ -67,7 +67,7 @@ static void air(void) {
 }
 
 /* Document 01, P4 and P5. Air has heat 7,170,000 at 300 K and 6,886,840 at 15 degrees C, 283,160 less. With a mole of hydrogen atoms, which bring no heat on this sheet, a
- * thousandth of a kelvin below 15 degrees C is 100,000 mg times -24 over 101,008 mg: -23.76. */
+ * thousandth of a kelvin below 15 degrees C is 100,000 mg times -24 over 101,008 mg: -23.76, the nearest to which is -24. */
 static void gas(void) {
     gaskeys_burn_told burnt = gaskeys_burn(3, 1, 4);
     printf("burnt: CO2 %" PRIu64 ", H2O %" PRIu64 ", O2 %" PRIu64 ", N2 %" PRIu64 ", Ar %" PRIu64 "\n", burnt.co2, burnt.h2o, burnt.o2, burnt.n2, burnt.ar);
@@ -106,7 +106,7 @@ static void write_back(void) {
 }
 
 int main(void) {
-    printf("version %d, and the archive's %" PRIu32 "\n", GASKEYS_VERSION, gaskeys_version_1());
+    printf("version %d, and the archive's %" PRIu32 "\n", GASKEYS_VERSION, gaskeys_version_2());
     read_text();
     walk();
     air();

@@ -1,4 +1,4 @@
-//! Document 01, "Burning" and "Temperature from heat".
+//! Document 01, "Burning" and "Temperature from heat". Document 02, request 2: how a specific content is rounded.
 //!
 //! Masses are in mg, a gas heat in mg times 0.00001 C.H.U./lb, both as wide integers.
 
@@ -96,9 +96,9 @@ impl Gases {
         self.heat(charge, mk) - self.heat(charge, FIFTEEN)
     }
 
-    /// Content above 15 °C divided by total mass, the fraction dropped: `/` drops it toward zero.
+    /// Content above 15 °C divided by total mass, to the nearest whole number.
     pub fn specific_content(&self, charge: &Charge, mk: i64) -> i128 {
-        self.content(charge, mk) / charge.total_mass()
+        nearest(self.content(charge, mk), charge.total_mass())
     }
 
     /// The dearest thousandth of a kelvin: the largest rise from one mK to the next. Between
@@ -107,6 +107,14 @@ impl Gases {
         let rise = |mk: i64| self.heat(charge, mk + 1) - self.heat(charge, mk);
         (200..2000).map(|kelvin| rise(1000 * kelvin)).max().expect("there are 1,800 kelvins")
     }
+}
+
+/// Document 02, request 2: of the two whole numbers about content / mass the nearer, at a tie the even one.
+fn nearest(content: i128, mass: i128) -> i128 {
+    let below = content.div_euclid(mass);
+    let away = |whole: i128| (content - whole * mass).abs();
+    let nearer = [below, below + 1].into_iter().min_by_key(|whole| (away(*whole), whole % 2 != 0));
+    nearer.expect("there are two")
 }
 
 /// What burns: 4, 5.

@@ -26,9 +26,10 @@ const FORMS: [&str; 14] = [
 ];
 
 /// The worked examples: their folder, the form, the file of the input and that of the output.
-const EXAMPLES: [(&str, &str, &str, &str); 5] = [
+const EXAMPLES: [(&str, &str, &str, &str); 6] = [
     ("parts", "ask", "requests.tsv", "answers.tsv"),
     ("heat", "ask", "requests.tsv", "answers.tsv"),
+    ("icing", "ask", "requests.tsv", "answers.tsv"),
     ("windows", "ask", "requests.tsv", "answers.tsv"),
     ("ten-stages", "walk", "question.tsv", "walk.tsv"),
     ("ten-stages", "ask", "requests.tsv", "answers.tsv"),

@@ -1,5 +1,6 @@
 //! Burning, gas heat, contents, temperature from heat.
 
+use second::dice::Dice;
 use second::gas::{
     burn, content, gas_heat, specific_content, temperature, Charge, Gases, Products,
 };
@@ -7,6 +8,8 @@ use second::inverse::Found;
 use second::refusal::Refusal;
 use second::sheet::built_in;
 use second::table::table;
+use second::trials::gas::lean_charge;
+use second::trials::{halves, sheets};
 
 fn charge(air: i64, carbon: i64, hydrogen: i64) -> Charge {
     Charge { air, carbon, hydrogen }
@@ -115,35 +118,87 @@ fn contents_and_specific_contents() {
     assert_eq!(specific_content(&air, 300_000, &built_in()), Ok(283_160));
     assert_eq!(content(&charge(1, 0, 1), 200_000, &flat([0; 3])), Ok(-211_084_000_000));
     assert_eq!(specific_content(&charge(1, 0, 1), 200_000, &flat([0; 3])), Ok(-2_089_775));
-    assert_eq!(specific_content(&charge(1, 0, 1), 288_159, &flat([0; 3])), Ok(-23));
+    assert_eq!(specific_content(&charge(1, 0, 1), 288_159, &flat([0; 3])), Ok(-24));
     assert_eq!(content(&charge(3, 1, 4), 288_160, &built_in()), Ok(0));
     let jump: Vec<u32> =
         (0..1801).flat_map(|row| [0, if row > 0 { 200_000 } else { 0 }, 0]).collect();
-    assert_eq!(specific_content(&charge(32_000, 23_186, 0), 200_000, &jump), Ok(-60_613_276));
+    assert_eq!(specific_content(&charge(32_000, 23_186, 0), 200_000, &jump), Ok(-60_613_277));
 }
 
-#[test]
-fn specific_contents_drop_the_fraction_toward_zero() {
+/// Ties of A 1, h 2: mK, how many halves of the mass the content is, and the specific contents one mK below, there and one mK above.
+fn ties(sheet: &[u32], ties: &[(i64, i128, [i128; 3])]) {
     let two = charge(1, 0, 2);
-    let zeros =
-        [(202_494, -2_010_937), (272_394, -370_312), (292_082, 92_187), (411_666, 2_914_062)];
-    for (mk, dropped) in zeros {
-        assert_eq!(specific_content(&two, mk, &flat([0; 3])), Ok(dropped));
+    assert_eq!(two.total_mass(), 102_016);
+    for (mk, halves, about) in ties {
+        assert_eq!(content(&two, *mk, sheet), Ok(halves * 51_008), "{mk}");
+        let specific = [mk - 1, *mk, mk + 1].map(|mk| specific_content(&two, mk, sheet).unwrap());
+        assert_eq!((specific, specific[1] % 2), (*about, 0), "{mk}");
     }
 }
 
 #[test]
-fn ties_of_the_built_in_sheet() {
-    let two = charge(1, 0, 2);
-    let even =
-        [(221_122, -1_871_112), (227_870, -1_682_078), (293_146, 138_218), (403_698, 3_239_808)];
-    for (mk, nearest_even) in even {
-        let twice = 2 * content(&two, mk, &built_in()).unwrap();
-        assert_eq!(twice % two.total_mass(), 0);
-        let halves = twice / two.total_mass();
-        assert!(halves % 2 != 0 && (halves - 2 * nearest_even).abs() == 1);
-        assert_eq!(specific_content(&two, mk, &built_in()), Ok(halves / 2));
+fn ties_go_to_the_even_number() {
+    ties(
+        &flat([0; 3]),
+        &[
+            (202_494, -4_021_875, [-2_010_960, -2_010_938, -2_010_915]),
+            (272_394, -740_625, [-370_335, -370_312, -370_290]),
+            (292_082, 184_375, [92_165, 92_188, 92_210]),
+            (411_666, 5_828_125, [2_914_038, 2_914_062, 2_914_087]),
+        ],
+    );
+    ties(
+        &built_in(),
+        &[
+            (221_122, -3_742_225, [-1_871_141, -1_871_112, -1_871_084]),
+            (227_870, -3_364_155, [-1_682_106, -1_682_078, -1_682_049]),
+            (293_146, 276_435, [138_189, 138_218, 138_246]),
+            (317_222, 1_621_525, [810_734, 810_762, 810_791]),
+            (403_698, 6_479_615, [3_239_780, 3_239_808, 3_239_835]),
+        ],
+    );
+}
+
+/// Twice the content is one more or one less than an odd multiple of an odd mass: no even number is near enough.
+#[test]
+fn half_a_unit_beside_a_tie_goes_to_the_odd_number() {
+    let beside = [
+        (charge(3, 1, 4), 248_116, -2_089_019, 1, -1_044_509),
+        (charge(4, 1, 2), 243_292, -2_206_709, -1, -1_103_355),
+        (charge(3, 1, 4), 404_894, 6_173_499, -1, 3_086_749),
+        (charge(3, 1, 4), 660_124, 20_242_717, 1, 10_121_359),
+        (charge(6, 3, 4), 658_537, 19_165_957, 1, 9_582_979),
+    ];
+    for (gas, mk, halves, over, odd) in beside {
+        let twice = 2 * content(&gas, mk, &built_in()).unwrap();
+        assert_eq!(twice, halves * gas.total_mass() + over, "{mk}");
+        assert_eq!(specific_content(&gas, mk, &built_in()), Ok(odd), "{mk}");
     }
+}
+
+/// The definition: 2 |content − q mass| is at most the mass, and if it is the mass, q is even.
+#[test]
+fn specific_contents_are_the_nearest_whole_numbers() {
+    let mut dice = Dice::new(2);
+    let random: Vec<Vec<u32>> = (0..6).map(|_| sheets::random(&mut dice)).collect();
+    let mut ties = [0; 2];
+    for sheet in accepted_sheets().iter().chain(&random) {
+        let gases = Gases::of(sheet).unwrap();
+        let mut states = halves::states(&mut dice, &gases);
+        for _ in 0..3000 {
+            let [air, carbon, hydrogen] = lean_charge(&mut dice);
+            states.push([air, carbon, hydrogen, dice.from_to(200_000, 2_000_000)]);
+        }
+        for [air, carbon, hydrogen, mk] in states {
+            let gas = charge(air, carbon, hydrogen);
+            let (content, mass) = (gases.content(&gas, mk), gas.total_mass());
+            let q = gases.specific_content(&gas, mk);
+            let twice = 2 * (content - q * mass).abs();
+            assert!(twice < mass || twice == mass && q % 2 == 0, "{gas:?} {mk} {q}");
+            ties[(content < 0) as usize] += (twice == mass) as u32;
+        }
+    }
+    assert!(ties.iter().all(|many| *many > 100), "{ties:?}");
 }
 
 #[test]
@@ -155,7 +210,7 @@ fn greatest_and_least_contents() {
     let steam = |row: usize| if row > 89 { 200_000 } else { 0 };
     let late: Vec<u32> = (0..1801).flat_map(|row| [0, steam(row), steam(row)]).collect();
     assert_eq!(content(&all, 2_000_000, &late), Ok(999_211_600_000_000_000));
-    assert_eq!(specific_content(&charge(32_000, 23_186, 0), 2_000_000, &late), Ok(101_818_611));
+    assert_eq!(specific_content(&charge(32_000, 23_186, 0), 2_000_000, &late), Ok(101_818_612));
 }
 
 #[test]

@@ -1,10 +1,12 @@
 //! What is asked: what must be stored, what must be among the runs of a seed, and how many they are.
 
-use std::collections::BTreeSet;
+use std::collections::{BTreeMap, BTreeSet};
 use std::sync::OnceLock;
 
 use second::dice::Dice;
+use second::gas::{Charge, Gases};
 use second::program::{Run, Written};
+use second::sheet::{built_in, judge, read, PLACES};
 use second::stored::trial_ask;
 use second::trials::runs::runs;
 use second::trials::sheets::{each_list, each_text};
@@ -40,6 +42,62 @@ fn every_row_and_refusal_is_stored() {
     }
     assert_eq!(numbers(answers.lines(), "refused", 1), [4, 5, 6, 8, 9, 11, 12, 13]);
     assert_eq!(numbers(answers.lines(), "stopped", 2), [4, 5, 7, 8, 9]);
+}
+
+/// A tie: whether its content is negative, and whether the whole number below the half is odd.
+type Tie = (bool, bool);
+
+const TIES: [Tie; 4] = [(true, true), (true, false), (false, true), (false, false)];
+
+/// How many ties of each kind are answered to the requests with that word, over a sheet.
+fn ties(word: &str, requests: &str, answers: &str, list: &[u32]) -> BTreeMap<Tie, u32> {
+    let gases = Gases::of(list).unwrap();
+    let mut ties = BTreeMap::new();
+    for (request, answer) in requests.lines().zip(answers.lines()) {
+        let fields: Vec<&str> = request.split('\t').collect();
+        if fields[0] == word && answer.starts_with("ok") {
+            let [air, carbon, hydrogen, mk] = [1, 2, 3, 4].map(|i| fields[i].parse().unwrap());
+            let charge = Charge { air, carbon, hydrogen };
+            let (twice, mass) = (2 * gases.content(&charge, mk), charge.total_mass());
+            let halves = twice.div_euclid(mass);
+            if twice == halves * mass && halves % 2 != 0 {
+                *ties.entry((twice < 0, halves.div_euclid(2) % 2 != 0)).or_default() += 1;
+            }
+        }
+    }
+    ties
+}
+
+#[test]
+fn ties_of_every_kind_are_stored() {
+    let [(_, requests), (_, answers)] = &trial_ask()[..] else { panic!("stdin and stdout") };
+    for word in ["specific-content", "station"] {
+        let ties = ties(word, requests, answers, &built_in());
+        assert!(TIES.iter().all(|tie| ties.contains_key(tie)), "{word} {ties:?}");
+    }
+}
+
+/// The list that a run asks over: that of its file, if it is accepted, or the built-in one.
+fn list_of(run: &Run) -> Option<Vec<u32>> {
+    let Some(text) = run.files.values().next() else { return Some(built_in()) };
+    let mut list = vec![0; PLACES];
+    let read = read(text, &mut list).and_then(|()| judge(&list));
+    read.is_ok().then_some(list)
+}
+
+#[test]
+fn a_seed_asks_ties_of_every_kind_over_thirty_sheets() {
+    for word in ["specific-content", "station"] {
+        let mut lists = BTreeSet::new();
+        for (run, written) in made().iter().filter(|(run, _)| run.words[0] == "ask") {
+            if let Some(list) = list_of(run) {
+                let ties = ties(word, &run.input, &written.output, &list);
+                lists.extend(TIES.iter().all(|tie| ties.contains_key(tie)).then_some(list));
+            }
+        }
+        assert!(lists.contains(&built_in()) && lists.contains(&vec![0; PLACES]), "{word}");
+        assert!(lists.len() >= 30, "{word} {}", lists.len());
+    }
 }
 
 #[test]

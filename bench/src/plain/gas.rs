@@ -1,4 +1,4 @@
-//! Gas heats and the temperature of a heat, in 64 bits.
+//! Gas heats, specific contents and the temperature of a heat, in 64 bits.
 
 use super::air::PLACES;
 use super::columns::HEAT;
@@ -81,6 +81,23 @@ pub fn heat_at(gas: Masses, mk: i64, sheet: &[u32]) -> i64 {
     let here = at_kelvin(gas, mk / 1000, sheet);
     let next = at_kelvin(gas, mk / 1000 + 1, sheet);
     here + mk % 1000 * ((next - here) / 1000)
+}
+
+/// 1, 3, 4, 5, 6; else content above 15 °C over total mass, to the nearest whole number, a tie to the even one.
+pub fn specific_content(charge: Charge, mk: i64, list: &[u32]) -> Result<i64, Refused> {
+    sheet::judge(list)?;
+    charge.admit()?;
+    covered(mk)?;
+    let gas = charge.masses();
+    let content = heat_at(gas, mk, list) - heat_at(gas, 288_160, list);
+    Ok(nearest(content, charge.total_mass()))
+}
+
+/// One further from zero than `/` gives where more than half is left, or half and the quotient is odd.
+fn nearest(content: i64, mass: i64) -> i64 {
+    let (whole, rest) = (content / mass, content % mass);
+    let further = 2 * rest.abs() + (whole & 1) > mass;
+    whole + if further { rest.signum() } else { 0 }
 }
 
 /// The temperature of a heat and the rest; the looks go into the first eleven places: 8 or 9.

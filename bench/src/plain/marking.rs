@@ -1,17 +1,12 @@
 //! Station figures and marks.
 
-use super::gas::{covered, heat_at, Charge};
-use super::{sheet, Refused};
+use super::gas::{specific_content, Charge};
+use super::Refused;
 
 /// 1, 3, 4, 5, 6; else mK, specific content and total mass.
 pub fn station(charge: Charge, mk: i64, list: &[u32]) -> Result<[f64; 3], Refused> {
-    sheet::judge(list)?;
-    charge.admit()?;
-    covered(mk)?;
-    let gas = charge.masses();
-    let content = heat_at(gas, mk, list) - heat_at(gas, 288_160, list);
-    let mass = charge.total_mass();
-    Ok([mk as f64, (content / mass) as f64, mass as f64])
+    let content = specific_content(charge, mk, list)?;
+    Ok([mk as f64, content as f64, charge.total_mass() as f64])
 }
 
 #[derive(Clone, Copy)]

@@ -13,7 +13,7 @@ mod writer;
 use crate::calls::Calls;
 use gas::Charge;
 use gaskeys::raw::{
-    MarkTold, PsiTold, SheetTold, StationTold, TemperatureTold, WalkTold, WrittenTold,
+    HeatTold, MarkTold, PsiTold, SheetTold, StationTold, TemperatureTold, WalkTold, WrittenTold,
 };
 use std::slice::{from_raw_parts, from_raw_parts_mut};
 
@@ -33,6 +33,7 @@ pub const PLAIN: Calls = Calls {
     read_sheet,
     judge_sheet,
     write_sheet,
+    specific_content,
     temperature,
     psi_inverse,
     walk: walk_told,
@@ -62,6 +63,21 @@ unsafe extern "C" fn write_sheet(
     match writer::write(from_raw_parts(list, n), from_raw_parts_mut(text, m)) {
         Ok(bytes) => WrittenTold { refusal: 0, row: 0, placed: 0, bytes },
         Err((refusal, row)) => WrittenTold { refusal, row, placed: placed(refusal), bytes: 0 },
+    }
+}
+
+unsafe extern "C" fn specific_content(
+    air: i64,
+    carbon: i64,
+    hydrogen: i64,
+    mk: i64,
+    sheet: *const u32,
+    n: usize,
+) -> HeatTold {
+    let charge = Charge { air, carbon, hydrogen };
+    match gas::specific_content(charge, mk, from_raw_parts(sheet, n)) {
+        Ok(heat) => HeatTold { refusal: 0, row: 0, placed: 0, heat },
+        Err((refusal, row)) => HeatTold { refusal, row, placed: placed(refusal), heat: 0 },
     }
 }
 

@@ -83,15 +83,20 @@ pub fn content(at: State, sheet: &[u32]) -> Result<Heat, Refusal> {
 }
 
 /// The specific content of a charge at a temperature, in 0.00001 C.H.U./lb: its content divided by
-/// its total mass, the fraction dropped toward zero. Refusals: 1, 3, 4, 5, 6.
+/// its total mass, to the nearest whole number, a tie to the even one. Refusals: 1, 3, 4, 5, 6.
 ///
 /// ```
 /// use gaskeys::{specific_content, Charge, Millikelvin, State};
 ///
 /// // −2,400,000 divided by 101,008 is −23.76..
+/// let sheet = [0; gaskeys::SHEET_PLACES];
 /// let charge = Charge { air: 1, carbon: 0, hydrogen: 1 };
 /// let at = State { charge, temperature: Millikelvin(288_159) };
-/// assert_eq!(specific_content(at, &[0; gaskeys::SHEET_PLACES])?, -23);
+/// assert_eq!(specific_content(at, &sheet)?, -24);
+/// // 9,404,600,000 divided by 102,016 is 92,187.5
+/// let charge = Charge { air: 1, carbon: 0, hydrogen: 2 };
+/// let at = State { charge, temperature: Millikelvin(292_082) };
+/// assert_eq!(specific_content(at, &sheet)?, 92_188);
 /// # Ok::<(), gaskeys::Refusal>(())
 /// ```
 pub fn specific_content(at: State, sheet: &[u32]) -> Result<i64, Refusal> {

@@ -7,7 +7,8 @@ use crate::{Refusal, State};
 pub struct Station {
     /// Temperature in mK.
     pub millikelvin: f64,
-    /// Specific content above 15 °C, in 0.00001 C.H.U./lb, the fraction dropped toward zero.
+    /// Specific content above 15 °C, in 0.00001 C.H.U./lb, to the nearest whole number, a tie to the
+    /// even one.
     pub content: f64,
     /// Total mass in mg.
     pub mass: f64,

@@ -94,16 +94,17 @@ pub struct MarkTold {
     pub counts: u32,
 }
 
-/// The header's GASKEYS_VERSION: it goes up whenever a list or a struct changes its meaning.
-pub const VERSION: u32 = 1;
+/// The header's GASKEYS_VERSION: it goes up whenever a number, a list or a
+/// struct changes its meaning.
+pub const VERSION: u32 = 2;
 
 /// Kept in whatever links the wrapper, as the header has it: an archive of another version does not
 /// have the symbol.
 #[used]
-static LINKED_VERSION: unsafe extern "C" fn() -> u32 = gaskeys_version_1;
+static LINKED_VERSION: unsafe extern "C" fn() -> u32 = gaskeys_version_2;
 
 extern "C" {
-    pub fn gaskeys_version_1() -> u32;
+    pub fn gaskeys_version_2() -> u32;
 
     pub fn gaskeys_read_sheet(
         text: *const u8,

@@ -2,9 +2,22 @@
 
 use gaskeys::{Millikelvin, State};
 use second::dice::Dice;
+use second::gas::{Charge, Gases};
 use second::marking::{self, Typed};
+use second::trials::halves;
 use trial::charges::{about, charge, temperature, wrapped};
 use trial::{dice, first, other, sheets};
+
+/// The figures of both sides, bit by bit.
+fn same_station(charge: Charge, mk: i64, sheet: &[u32]) {
+    let at = State { charge: wrapped(charge), temperature: Millikelvin(mk) };
+    let bits = |figures: [f64; 3]| figures.map(f64::to_bits);
+    let answer = first(gaskeys::station(at, sheet));
+    let answer = answer.map(|f| bits([f.millikelvin, f.content, f.mass]));
+    let expected = other(marking::station(&charge, mk, sheet));
+    let expected = expected.map(|f| bits([f.mk, f.specific_content, f.total_mass]));
+    assert_eq!(answer, expected, "{charge:?} {mk}");
+}
 
 #[test]
 fn stations_are_alike() {
@@ -12,14 +25,18 @@ fn stations_are_alike() {
     let good = sheets::accepted(&mut dice);
     for _ in 0..20_000 {
         let sheet = sheets::drawn(&mut dice, &good);
-        let (charge, mk) = (charge(&mut dice), temperature(&mut dice));
-        let at = State { charge: wrapped(charge), temperature: Millikelvin(mk) };
-        let bits = |figures: [f64; 3]| figures.map(f64::to_bits);
-        let answer = first(gaskeys::station(at, &sheet));
-        let answer = answer.map(|f| bits([f.millikelvin, f.content, f.mass]));
-        let expected = other(marking::station(&charge, mk, &sheet));
-        let expected = expected.map(|f| bits([f.mk, f.specific_content, f.total_mass]));
-        assert_eq!(answer, expected, "{charge:?} {mk}");
+        same_station(charge(&mut dice), temperature(&mut dice), &sheet);
+    }
+}
+
+#[test]
+fn stations_about_a_half_are_alike() {
+    let mut dice = dice(933);
+    for sheet in sheets::accepted(&mut dice) {
+        let gases = Gases::of(&sheet).expect("an accepted sheet");
+        for [air, carbon, hydrogen, mk] in halves::states(&mut dice, &gases) {
+            same_station(Charge { air, carbon, hydrogen }, mk, &sheet);
+        }
     }
 }
 

@@ -1,8 +1,9 @@
 //! air_heat, air_psi, air_cp, burn, gas_heat, content, specific_content and the built-in sheet.
 
 use gaskeys::{raw, Millikelvin, State};
-use second::gas::{self, Charge, Products};
+use second::gas::{self, Charge, Gases, Products};
 use second::sheet::{self, PLACES};
+use second::trials::halves;
 use second::{air, refusal};
 use trial::charges::{about, charge, temperature, wild, wrapped};
 use trial::lent::Lent;
@@ -85,6 +86,61 @@ fn heats_are_alike() {
     assert!(told > 10_000 && refused > 1_000, "{told} {refused}");
 }
 
+/// A charge at a temperature, for both sides.
+fn state(air: i64, carbon: i64, hydrogen: i64, mk: i64) -> (Charge, State) {
+    let charge = Charge { air, carbon, hydrogen };
+    (charge, State { charge: wrapped(charge), temperature: Millikelvin(mk) })
+}
+
+/// Ties of A 1, h 2, over a sheet of zeros and the built-in one: mK, and the specific contents one mK
+/// below, there and one mK above.
+const ZEROS: [(i64, [i64; 3]); 4] = [
+    (202_494, [-2_010_960, -2_010_938, -2_010_915]),
+    (272_394, [-370_335, -370_312, -370_290]),
+    (292_082, [92_165, 92_188, 92_210]),
+    (411_666, [2_914_038, 2_914_062, 2_914_087]),
+];
+const BUILT_IN: [(i64, [i64; 3]); 5] = [
+    (221_122, [-1_871_141, -1_871_112, -1_871_084]),
+    (227_870, [-1_682_106, -1_682_078, -1_682_049]),
+    (293_146, [138_189, 138_218, 138_246]),
+    (317_222, [810_734, 810_762, 810_791]),
+    (403_698, [3_239_780, 3_239_808, 3_239_835]),
+];
+
+#[test]
+fn ties_go_to_the_even_number() {
+    let sheets = [(vec![0; PLACES], &ZEROS[..]), (gaskeys::built_in_sheet(), &BUILT_IN)];
+    for (sheet, ties) in sheets {
+        for (mk, about) in ties {
+            for (mk, expected) in (mk - 1..).zip(about) {
+                let (_, at) = state(1, 0, 2, mk);
+                assert_eq!(first(gaskeys::specific_content(at, &sheet)), Ok(*expected), "{mk}");
+                let content = first(gaskeys::station(at, &sheet)).map(|figures| figures.content);
+                assert_eq!(content, Ok(*expected as f64), "{mk}");
+            }
+        }
+    }
+}
+
+#[test]
+fn specific_contents_about_a_half_are_alike() {
+    let mut dice = dice(944);
+    let mut ties = [0; 2];
+    for sheet in sheets::accepted(&mut dice) {
+        let gases = Gases::of(&sheet).expect("an accepted sheet");
+        for [air, carbon, hydrogen, mk] in halves::states(&mut dice, &gases) {
+            let (charge, at) = state(air, carbon, hydrogen, mk);
+            let specific = first(gaskeys::specific_content(at, &sheet)).map(i128::from);
+            let expected = other(gas::specific_content(&charge, mk, &sheet));
+            assert_eq!(specific, expected, "{charge:?} {mk}");
+            let (content, mass) = (gases.content(&charge, mk), charge.total_mass());
+            ties[(content < 0) as usize] += ((2 * content).rem_euclid(2 * mass) == mass) as u32;
+        }
+    }
+    assert!(ties.iter().all(|many| *many > 100), "{ties:?}");
+}
+
 #[test]
 fn the_built_in_sheet_is_the_one_that_is_made() {
     assert_eq!(gaskeys::built_in_sheet(), sheet::built_in());
@@ -123,5 +179,5 @@ fn a_refusal_has_0_in_every_other_field() {
 #[test]
 fn the_archive_has_the_wrappers_version() {
     // SAFETY: nothing is passed.
-    assert_eq!(unsafe { raw::gaskeys_version_1() }, raw::VERSION);
+    assert_eq!(unsafe { raw::gaskeys_version_2() }, raw::VERSION);
 }

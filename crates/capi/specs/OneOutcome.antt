@@ -29,8 +29,8 @@ use Rattle.telling.specs.declared.MarkTold.{MarkTold}
 use Rattle.telling.specs.Flat.{flatSheet, flatReading, flatBurn, flatHeat, flatStation, flatMark, typedOf}
 use Rattle.capi.specs.Lent.{listTold, SheetIs, BuiltInIs, WrittenIs, TemperatureIs, PsiIs, WalkIs}
 
-pub «one-gaskeys_version_1» : (r q : ℕ) → r ≡ 1 → q ≡ 1 → r ≡ q
-«one-gaskeys_version_1» r q p o = p ∙ sym o
+pub «one-gaskeys_version_2» : (r q : ℕ) → r ≡ 2 → q ≡ 2 → r ≡ q
+«one-gaskeys_version_2» r q p o = p ∙ sym o
 
 pub one-gaskeys_read_sheet : {text before later after : List ℕ} {r q : SheetTold} → SheetIs text before r later → SheetIs text before q after → (r ≡ q) × (later ≡ after)
 one-gaskeys_read_sheet {before = before} p o =

@@ -29,13 +29,13 @@ ghost use Rattle.marking.specs.Figures.{stationTold};
 ghost use Rattle.telling.specs.Flat.{flatSheet, flatBurn, flatHeat, flatReading, flatStation, flatMark, typedOf};
 ghost use Rattle.capi.specs.Lent.{SheetIs, BuiltInIs, WrittenIs, TemperatureIs, PsiIs, WalkCall};
 
-// up by one where a list or a struct changes its meaning
-const VERSION: u32 = 1;
+// up by one where a number, a list or a struct changes its meaning: 2 since a specific content is rounded to the nearest
+const VERSION: u32 = 2;
 
 // The version of these calls. The symbol has it in its name, so that what was compiled for another version does not link.
 #[no_mangle]
-pub extern "C" fn gaskeys_version_1() -> u32
-    ensures { λ r. ⌜ r ≡ 1 ⌝ }
+pub extern "C" fn gaskeys_version_2() -> u32
+    ensures { λ r. ⌜ r ≡ 2 ⌝ }
 {
     VERSION
 }
@@ -143,7 +143,7 @@ pub extern "C" fn gaskeys_content(
     telling::tell_heat(gas::content(charge, Millikelvin(millikelvin), sheet))
 }
 
-// The specific content of a charge at a temperature, the fraction dropped toward zero.
+// The specific content of a charge at a temperature, to the nearest whole number, a tie to the even one.
 #[no_mangle]
 pub extern "C" fn gaskeys_specific_content(
     air: i64,

@@ -31,7 +31,7 @@ examplePage verdict s =
 
 -- the version, and which sheet is built in
 abbrev pub versionText : List ℕ
-versionText = bytesOf "gas keys 1, built-in sheet: R. & M. 3099, Table 5\n"
+versionText = bytesOf "gas keys 2, built-in sheet: R. & M. 3099, Table 5\n"
 
 -- ---- lines on standard error
 abbrev pub misplacedText : List ℕ

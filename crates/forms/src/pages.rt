@@ -48,7 +48,7 @@ pub fn put_version(out: &mut [u8]) -> usize
     ensures { λ r. ⌜ Stands versionText (now (out .entry)) 0 r (now (out .exit)) ⌝ }
 {
     text::put_text(
-        b"gas keys 1, built-in sheet: R. & M. 3099, Table 5\n",
+        b"gas keys 2, built-in sheet: R. & M. 3099, Table 5\n",
         out,
         0,
     )

@@ -1,7 +1,7 @@
 -- How large each quantity of a charge that burns can be, over an accepted sheet and the whole range of temperatures: all stay inside signed 64 bits.
 --     gas-heat-least, gas-heat-most      −358,802,701,600,000,000 to 1,068,080,000,000,000,000
 --     content-least, content-most        −551,298,400,000,000,000 to 999,211,600,000,000,000
---     specific-size                      at most a hundred-thousandth of the content's size
+--     specific-most, specific-least      at most one over a hundred-thousandth of the content, on either side of 0
 --     mass-least, mass-most              100,000 to 10,650,950,000
 --     slope-least, slope-most            7256A times the rise of air, to 1,068,080,000,000,000: what a gas heat rises by with one mK
 -- Assumes nothing.
@@ -9,15 +9,15 @@ use mathlib.Core.Path.{_≡_, refl, ap, _∙_}
 use mathlib.Core.List.{List}
 use mathlib.Core.Logic.{⊎-elim, _⊎_, inl, inr}
 use Prim.Native.Nat.{ℕ, suc, _+_, _-_, _*_, _/_, _%_, _<_, _≤_}
-use native.Mathlib.Nat.{eq-or-lt-of-le, le-trans, le-refl, mul-le-mul, mul-le-mul-left, mul-le-mul-right, div-mul-le-self, le-div-iff-mul-le}
+use native.Mathlib.Nat.{eq-or-lt-of-le, le-trans, le-refl, mul-le-mul, mul-le-mul-left, mul-le-mul-right}
 use native.Mathlib.Decide.{decLe}
 use native.Mathlib.Omega.{arith}
 use lib.Dec.{lit<, lit≤}
-use lib.IntN.{ℤ, pos, negsuc}
-use lib.Signed.{quotZ}
+use lib.IntN.{pos}
 use mir.Syntax.{w64}
 use mir.Val.{SFits}
-use Rattle.signed.specs.Zed.{up, dn, Is, is-self, is-minus, is-neg, is-pos, up-most, dn-most, fits-from, leZ-true, apart, zed}
+use Rattle.signed.specs.Zed.{up, dn, Is, is-self, is-minus, up-most, fits-from, leZ-true, apart, zed}
+use Rattle.signed.specs.NearestLaws.{nearest-up, nearest-dn}
 use Rattle.rows.specs.Rows.{rowsH}
 use Rattle.rows.specs.Table.{column, airH}
 use Rattle.rows.specs.TableLaws.{H-grows}
@@ -33,6 +33,7 @@ use Rattle.burning.specs.Burning.{document01, oxygenUsed, lean, Burns, totalMas
 use Rattle.burning.specs.BurningLaws.{document01-sound}
 use Rattle.burning.specs.Burning.{massesOf}
 use Rattle.gas.specs.Heat.{heatOf, gasHeat, contentAbove15, specificContent}
+use Rattle.gas.specs.SpecificLaws.{specific-nearest}
 use Rattle.gas.specs.HeatLaws.{sum-parts, added-most, air-outweighs, masses-sized, per-pound, gas-straight}
 use Rattle.gas.specs.inner.Sizes.{Sized}
 
@@ -80,18 +81,6 @@ below-or-above T = elim (decLe T fifteenDegrees) [ yes h ↦ inl h | no h ↦ in
 
 split : (n : ℕ) {a c : ℕ} → a ≤ c → n * c ≡ n * a + n * (c - a)
 split n {a} {c} h = let e : c ≡ a + (c - a) = omega arith in ap (λ (x : ℕ). n * x) e ∙ omega arith
-
--- a quotient by at least 100,000
-shrinks : (m n : ℕ) → 100000 ≤ n → m / n ≤ m / 100000
-shrinks m n h = le-div-iff-mul-le (lit< tt) .1 (omega (arith, div-mul-le-self m n, mul-le-mul-left (m / n) h))
-
-quotient-most : (x : ℤ) {n : ℕ} → 100000 ≤ n → up (quotZ x (pos n)) ≤ up x / 100000
-quotient-most (pos m) {n} h = shrinks m n h
-quotient-most (negsuc m) {n} h = omega (arith, up-most (is-neg (is-pos (suc m / n))))
-
-quotient-least : (x : ℤ) {n : ℕ} → 100000 ≤ n → dn (quotZ x (pos n)) ≤ dn x / 100000
-quotient-least (pos m) {n} h = omega arith
-quotient-least (negsuc m) {n} h = omega (arith, dn-most (is-neg (is-pos (suc m / n))), shrinks (suc m) n h)
 
 -- ---- of a charge that burns
 -- its mass
@@ -176,11 +165,8 @@ module _ {g : Gas} {s : List ℕ} (b : Burns document01 g) (ok : Accepted s) whe
     pub content-fits : SFits w64 (contentAbove15 document01 s g T)
     content-fits = fits-from w64 (is-self (contentAbove15 document01 s g T)) (omega (arith, content-most)) (omega (arith, content-least))
 
-    -- a specific content is at most a hundred-thousandth of the content, on either side of 0
-    pub specific-most : up (specificContent document01 s g T) ≤ up (contentAbove15 document01 s g T) / 100000
-    unfolding specificContent
-    specific-most = quotient-most (contentAbove15 document01 s g T) (mass-least b)
+    pub specific-most : up (specificContent document01 s g T) ≤ up (contentAbove15 document01 s g T) / 100000 + 1
+    specific-most = nearest-up (lit< tt) (mass-least b) (specific-nearest document01 document01-sound b s T)
 
-    pub specific-least : dn (specificContent document01 s g T) ≤ dn (contentAbove15 document01 s g T) / 100000
-    unfolding specificContent
-    specific-least = quotient-least (contentAbove15 document01 s g T) (mass-least b)
+    pub specific-least : dn (specificContent document01 s g T) ≤ dn (contentAbove15 document01 s g T) / 100000 + 1
+    specific-least = nearest-dn (lit< tt) (mass-least b) (specific-nearest document01 document01-sound b s T)

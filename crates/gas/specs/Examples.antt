@@ -1,12 +1,14 @@
--- Document 01, "Examples to hold against it": P1 to P10 as one table, and the looks of P8, the sheet being any accepted one. Assumes nothing.
+-- Document 01, "Examples to hold against it": P1 to P10 as one table, and the looks of P8, the sheet being any accepted one; and specific contents that are
+-- ties (document 02, request 2). Assumes nothing.
 use borrow.Author.Tests.{le-ltb}
 use mathlib.Core.Path.{_≡_, refl, ap, _∙_, fun-ext}
 use mathlib.Core.List.{List, [], _∷_, _++_}
-use Prim.Native.Nat.{ℕ, _+_, _*_, _/_, _%_, _<_, _≤_}
+use Prim.Native.Nat.{ℕ, _+_, _*_, _-_, _/_, _%_, _<_, _≤_}
 use native.Mathlib.Omega.{arith}
 use lib.Dec.{lit<, lit≤, ltb}
-use lib.IntN.{ℤ, pos, _+ℤ_}
+use lib.IntN.{ℤ, pos, negℤ, _+ℤ_}
 use Rattle.signed.specs.Zed.{up, inZ, eqZ, is-pos, same-by}
+use Rattle.signed.specs.Nearest.{carryOf, nearestℕ, nearestZ}
 use Rattle.rows.specs.Rows.{rowsH}
 use Rattle.rows.specs.Table.{column, airH}
 use Rattle.refusal.specs.Refusals.{gives, refuses, _when_}
@@ -19,7 +21,7 @@ use Rattle.air.specs.Examples.{P1, P2, P3}
 use Rattle.sheet.specs.Sheet.{o2, co2, h2o, rise, Accepted}
 use Rattle.sheet.specs.AnswersLaws.{past-sheet}
 use Rattle.burning.specs.declared.Charge.{Charge}
-use Rattle.burning.specs.Burning.{document01, gasOf, beyond, lean, oxygenUsed, products, massOf}
+use Rattle.burning.specs.Burning.{document01, gasOf, beyond, lean, oxygenUsed, products, massOf, totalMass}
 use Rattle.burning.specs.Burning.{massesOf}
 use Rattle.gas.specs.Heat.{heatSum, heatOf, gasHeat, heatSlope}
 use Rattle.gas.specs.HeatLaws.{sum-is, heat-straight}
@@ -122,3 +124,17 @@ table {s} ok = record {
   p9 = part-told ok 1202399999 (lit< tt);
   p10 = part-told ok 1202400000 (lit< tt);
 }
+
+-- ---- A 1, h 2 has a mass of 102,016: contents of so many halves of it, which the built-in sheet has at 221,122, 227,870, 293,146 and 317,222 mK, and one beside
+pub record Ties : Type 0 where
+  pub mass : totalMass document01 (gasOf (charge 1 0 2)) ≡ 102016
+  pub even-below : nearestZ (negℤ (pos (3742225 * 51008))) 102016 ≡ negℤ (pos 1871112)
+  pub odd-below : nearestZ (negℤ (pos (3364155 * 51008))) 102016 ≡ negℤ (pos 1682078)
+  pub odd-above : nearestZ (pos (276435 * 51008)) 102016 ≡ pos 138218
+  pub even-above : nearestZ (pos (1621525 * 51008)) 102016 ≡ pos 810762
+  pub beside-below : nearestZ (negℤ (pos (3742225 * 51008 + 1))) 102016 ≡ negℤ (pos 1871113)
+  pub beside-above : nearestZ (pos (276435 * 51008 - 1)) 102016 ≡ pos 138217
+
+pub ties : Ties
+unfolding nearestZ nearestℕ carryOf
+ties = record { mass = refl; even-below = refl; odd-below = refl; odd-above = refl; even-above = refl; beside-below = refl; beside-above = refl }

@@ -1,10 +1,10 @@
--- Gas heat, content above 15 °C and specific content (document 01, "Burning"). A gas heat is in mg times 0.00001 C.H.U./lb, a signed number; a
--- temperature in mK; a sheet is its list of numbers.
+-- Gas heat, content above 15 °C and specific content (document 01, "Burning"; document 02, request 2, for the rounding). A gas heat is in mg times
+-- 0.00001 C.H.U./lb, a signed number; a temperature in mK; a sheet is its list of numbers.
 use mathlib.Core.List.{List}
 use Prim.Native.Nat.{ℕ}
 use lib.IntN.{ℤ, pos, _+ℤ_, _-ℤ_, _*ℤ_}
-use lib.Signed.{quotZ}
 use Rattle.signed.specs.Zed.{up}
+use Rattle.signed.specs.Nearest.{nearestZ}
 use Rattle.rows.specs.Table.{airH}
 use Rattle.air.specs.Limits.{fifteenDegrees}
 use Rattle.air.specs.Readings.{between, airHeat}
@@ -33,6 +33,6 @@ gasHeat w s g T = heatOf (massesOf w g) s T
 abbrev pub contentAbove15 : Weights → List ℕ → Gas → ℕ → ℤ
 contentAbove15 w s g T = gasHeat w s g T -ℤ gasHeat w s g fifteenDegrees
 
--- specific content: content above 15 °C divided by total mass, the fraction dropped
+-- specific content: content above 15 °C divided by total mass, nearest whole, a tie going to the even number (`specific-nearest` of SpecificLaws.antt)
 unfoldable pub specificContent : Weights → List ℕ → Gas → ℕ → ℤ
-specificContent w s g T = quotZ (contentAbove15 w s g T) (pos (totalMass w g))
+specificContent w s g T = nearestZ (contentAbove15 w s g T) (totalMass w g)

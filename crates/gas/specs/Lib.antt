@@ -2,9 +2,10 @@ pub mod Heat
 pub mod Answers
 pub mod inner
 pub mod HeatLaws
+pub mod AnswersLaws
+pub mod SpecificLaws
 pub mod BoundsLaws
 pub mod RestLaws
-pub mod AnswersLaws
 pub mod OneOutcome
 pub mod Demand1Laws
 pub mod Examples

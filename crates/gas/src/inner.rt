@@ -84,7 +84,7 @@ pub fn specific_at(gas: Gas, t: Millikelvin, sheet: &[u32], air: &[u32; rows::RO
     ensures { λ r. ⌜ r ≡ specificContent document01 (now (sheet .entry)) gas (up (t .0)) ⌝ }
 {
     let content = content_at(gas, t, sheet, air);
-    signed::quotient(content.0, burning::inner::total_mass(gas))
+    signed::nearest(content.0, burning::inner::total_mass(gas))
 }
 
 // The temperature of a heat with the rest, refusals 8 and 9 tested. The looks go into the first eleven places of the list, 0 where unused.

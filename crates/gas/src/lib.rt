@@ -62,7 +62,7 @@ pub fn content(charge: Charge, t: Millikelvin, sheet: &[u32]) -> HeatAnswer
     }
 }
 
-// The specific content of a charge at a temperature, the fraction dropped.
+// The specific content of a charge at a temperature, to the nearest whole number, a tie to the even one.
 pub fn specific_content(charge: Charge, t: Millikelvin, sheet: &[u32]) -> SpecificAnswer
     ensures { λ r. ⌜ paperSpecific r ≡ specificTold document01 charge (t .0) (now (sheet .entry)) ⌝ }
 {

@@ -11,11 +11,10 @@ use lib.Signed.{leZ}
 use lib.Ieee.{Float, nan, inf, fin, up, down}
 use lib.Ieee.Exact.{HasValue}
 use lib.Ieee.Fits.{down-pos}
-use Rattle.signed.specs.Zed.{inZ, is-pos, is-self, is-neg, is-add, is-minus, is-mul, same-by, yes-leZ, apart, zed}
+use Rattle.signed.specs.Zed.{inZ, is-pos, is-self, is-neg, is-add, is-minus, is-mul, same-by, yes-leZ, apart, abs-parts, zed}
 use Rattle.marking.specs.Marking.{signed, near}
 use Rattle.marking.specs.Exact.{turned, spans}
 use Rattle.marking.specs.Division.{some}
-use Rattle.marking.specs.FiguresLaws.{abs-parts}
 
 pub same-test : (a b : Bool) → (T a → T b) → (T b → T a) → a ≡ b
 same-test true true p q = refl

@@ -14,14 +14,8 @@ use lib.Ieee.Fits.{down-pos}
 use lib.Ieee.Exact.{HasValue}
 use lib.Ieee.Scale.{round-same}
 use lib.Ieee.Back.{round-whole}
-use Rattle.signed.specs.Zed.{same, is-self, is-diff, is-minus, apart}
-use Rattle.signed.specs.Zed as Zed
+use Rattle.signed.specs.Zed.{same, is-self, is-diff, is-minus, apart, abs-parts}
 use Rattle.marking.specs.Figures.{figure, below0, Exactly}
-
--- the size of a number by its parts
-pub abs-parts : (z : ℤ) → natAbs z ≡ Zed.up z + Zed.dn z
-abs-parts (pos n) = omega arith
-abs-parts (negsuc n) = omega arith
 
 -- ---- a whole number up to 2^53 in size is a float
 pub in-float : (z : ℤ) → natAbs z ≤ 2 ^ 53 → T (inFloat binary64 z)

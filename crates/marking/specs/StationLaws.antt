@@ -5,7 +5,7 @@ use mathlib.Core.List.{List}
 use Prim.Native.Nat.{ℕ, _^_, _≤_}
 use native.Mathlib.Omega.{arith}
 use lib.IntN.{ℤ, pos, natAbs, _-ℤ_}
-use Rattle.signed.specs.Zed.{up, in-range, apart, zed}
+use Rattle.signed.specs.Zed.{up, in-range, apart, abs-parts, zed}
 use Rattle.refusal.specs.Refusals.{gives}
 use Rattle.refusal.specs.RefusalsLaws.{values-given}
 use Rattle.refusal.specs.OrdersLaws.{clear-order, given}
@@ -18,7 +18,7 @@ use Rattle.gas.specs.Answers.{heatOrder}
 use Rattle.gas.specs.AnswersLaws.{Readable, readable-of}
 use Rattle.gas.specs.BoundsLaws.{mass-most, content-most, content-least, specific-most, specific-least}
 use Rattle.marking.specs.Figures.{figuresOf, AllExactly, differences, stationSpecific, stationMass, numbersTold, stationTold, paperStation}
-use Rattle.marking.specs.FiguresLaws.{abs-parts, figure-exact, like-figures}
+use Rattle.marking.specs.FiguresLaws.{figure-exact, like-figures}
 use Rattle.marking.specs.declared.inner.StationNumbers.{StationNumbers}
 use Rattle.marking.specs.declared.StationFigure.{StationFigure}
 use Rattle.marking.specs.declared.StationAnswer.the-variants.{Is}

@@ -4,10 +4,11 @@
 ghost use mathlib.Core.Path.{_≡_};
 ghost use Prim.Native.Nat.{_<_};
 ghost use lib.IntN.{pos, _-ℤ_};
-ghost use lib.Signed.{quotZ, _≤ℤ_};
+ghost use lib.Signed.{_≤ℤ_};
 ghost use mir.Syntax.{w64};
 ghost use mir.Val.{SFits};
 ghost use Rattle.signed.specs.Zed.{inZ};
+ghost use Rattle.signed.specs.Nearest.{carryOf, nearestZ};
 
 // Whether x is from lo to hi.
 pub fn inside(x: i64, lo: i64, hi: i64) -> bool
@@ -40,10 +41,34 @@ pub fn gap(a: i64, b: i64) -> u64
     (b - a) as u64
 }
 
-// a by b, the fraction dropped toward zero.
-pub fn quotient(a: i64, b: u64) -> i64
-    requires { ⌜ (0 < b) × (b < 9223372036854775808) ⌝ }
-    ensures { λ r. ⌜ r ≡ quotZ a (pos b) ⌝ }
+// What a quotient gains, away from zero, to be the nearest whole number, where so much lies over and so much lacks to the next: at a tie, what makes it even.
+fn carry(q: u64, over: u64, lack: u64) -> i64
+    ensures { λ r. ⌜ r ≡ pos (carryOf q over lack) ⌝ }
 {
-    a / (b as i64)
+    if over < lack {
+        0
+    } else if lack < over {
+        1
+    } else {
+        of_u64(q % 2)
+    }
+}
+
+// a by b, to the nearest whole number, a tie to the even one. What lies over is held to what lacks, so that nothing is doubled; below zero sizes are
+// counted from -1, so that the least number has one.
+pub fn nearest(a: i64, b: u64) -> i64
+    requires { ⌜ 0 < b ⌝ }
+    ensures { λ r. ⌜ r ≡ nearestZ a b ⌝ }
+{
+    if a >= 0 {
+        let n = to_u64(a);
+        let q = n / b;
+        let rest = n % b;
+        of_u64(q) + carry(q, rest, b - rest)
+    } else {
+        let n = gap(a, -1);
+        let q = n / b;
+        let rest = n % b;
+        -of_u64(q) - carry(q, rest + 1, b - rest - 1)
+    }
 }

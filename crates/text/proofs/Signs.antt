@@ -7,13 +7,13 @@ use native.Mathlib.Omega.{arith}
 use native.Mathlib.Numerals.{add-one}
 use borrow.Author.Tests.{leb-true, leb-false, le-leb, lt-leb}
 use lib.Dec.{eqb, leb}
-use lib.Signed.{leZ, _≤ℤ_}
+use lib.Signed.{leZ}
 use lib.IntN.{ℤ, pos, negsuc, natAbs, _-ℤ_}
 use lib.ListN.{length, getD, take, drop, length-drop}
 use lib.Seq.{take-all}
 use mir.Syntax.{w64}
 use mir.Val.{Fits, SFits, toZ, ofZ}
-use Rattle.signed.specs.Zed.{dn, back, back-pos, same-by, is-minus, is-self, is-pos, fits-from, fits-dn, leZ-false, zed}
+use Rattle.signed.specs.Zed.{dn, back, back-pos, same-by, is-minus, is-self, is-pos, fits-from, fits-dn, leZ-false, gap-gives, zed}
 use Rattle.text.specs.Decimal.{decimal, decimalZ}
 use Rattle.text.specs.Wholes.{minusFirst, minusOf}
 use Rattle.text.specs.declared.Digits.{Digits}
@@ -67,21 +67,11 @@ module _ (z : ℤ) (f : SFits w64 z) where
   pub size-plus : {n : ℕ} → pos n ≡ read z → n ≡ natAbs z
   size-plus {n} e = ap natAbs (e ∙ back f)
 
-  pub gap-asks : leZ (pos 0) (read z) ≡ false → (read z ≤ℤ negsuc 0) × SFits w64 (negsuc 0 -ℤ read z)
-  gap-asks h =
-      let k : leZ (pos 0) z ≡ false = rw (back f) at h in
-      rw (back f) (omega zed, fits-from w64 (is-minus (is-self (negsuc 0)) (is-self z)) (omega (zed, fits-dn f)) (omega (zed, fits-dn f)))
-
-  below : {n : ℕ} → pos n ≡ negsuc 0 -ℤ read z → z ≡ negsuc n
-  below {n} e =
-      let k : pos n ≡ negsuc 0 -ℤ z = rw (back f) at e in
-      omega (zed, is-minus (is-self (negsuc 0)) (is-self z))
-
   pub size-minus : {n : ℕ} → pos n ≡ negsuc 0 -ℤ read z → n + 1 ≡ natAbs z
-  size-minus {n} e = add-one n ∙ ap natAbs (sym (below e))
+  size-minus {n} e = add-one n ∙ ap natAbs (sym (gap-gives f e))
 
   pub gap-fits : {n : ℕ} → pos n ≡ negsuc 0 -ℤ read z → Fits w64 (n + 1)
-  gap-fits {n} e = let h : suc n ≤ 9223372036854775808 = subst (λ (y : ℤ). dn y ≤ 9223372036854775808) (below e) (fits-dn f) in record { fits = omega arith }
+  gap-fits {n} e = let h : suc n ≤ 9223372036854775808 = subst (λ (y : ℤ). dn y ≤ 9223372036854775808) (gap-gives f e) (fits-dn f) in record { fits = omega arith }
 
   pub decimalZ-plus : {n : ℕ} → leZ (pos 0) (read z) ≡ true → n ≡ natAbs (read z) → decimalZ z ≡ decimal n
   decimalZ-plus {n} h e = spell-plus z (rw (back f) at h) ∙ ap decimal (sym (e ∙ ap natAbs (back f)))

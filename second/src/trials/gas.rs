@@ -1,9 +1,9 @@
-//! Burning, heats, contents, stations and temperatures, over any sheet.
+//! Burning, heats, contents, stations and temperatures, over any sheet; specific contents at a half are in `halves`.
 
 use crate::answer::fields;
 use crate::dice::Dice;
 use crate::gas::{Charge, Gases, FIFTEEN};
-use crate::trials::EXTREMES;
+use crate::trials::{halves, EXTREMES};
 
 /// Charges at the limits of the rules.
 const CHARGES: [[i64; 3]; 9] = [
@@ -26,6 +26,7 @@ pub fn requests(dice: &mut Dice, gases: &Gases) -> Vec<String> {
         requests.extend(heats(dice, charge));
         requests.extend(temperatures(dice, gases, charge));
     }
+    requests.extend(halves::requests(dice, gases));
     requests.extend(extremes());
     requests.extend(waiting());
     requests

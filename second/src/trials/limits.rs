@@ -1,4 +1,4 @@
-//! Both sides of every limit of document 01 that a request of `keys ask` over the built-in sheet can meet, and the examples P1 to
+//! Both sides of every limit of the documents that a request of `keys ask` over the built-in sheet can meet, and the examples P1 to
 //! P10. The limits of sheets are in `sheets`, those of lent lists in the tests of the calls for C.
 
 /// A line for each side; a line's words are parted here by spaces.
@@ -29,7 +29,8 @@ air-temperature 95264000
 air-temperature 133151000
 air-temperature 133151001";
 
-/// P4 to P10; A, c and h; lean; range; a target at and beside the heat at both ends.
+/// P4 to P10; A, c and h; lean; range; specific contents just below 15 °C, of ties and a mK beside them, and half a unit beside a
+/// tie; a target at and beside the heat at both ends.
 const GAS: &str = "\
 burn 3 1 4
 burn 2 1 4
@@ -61,6 +62,27 @@ specific-content 3 1 4 200000
 specific-content 3 1 4 288160
 specific-content 3 1 4 2000000
 specific-content 3 1 4 2000001
+specific-content 1 0 1 288159
+specific-content 1 0 2 221121
+specific-content 1 0 2 221122
+specific-content 1 0 2 221123
+specific-content 1 0 2 227869
+specific-content 1 0 2 227870
+specific-content 1 0 2 227871
+specific-content 1 0 2 293145
+specific-content 1 0 2 293146
+specific-content 1 0 2 293147
+specific-content 1 0 2 317221
+specific-content 1 0 2 317222
+specific-content 1 0 2 317223
+specific-content 1 0 2 403697
+specific-content 1 0 2 403698
+specific-content 1 0 2 403699
+specific-content 3 1 4 248116
+specific-content 4 1 2 243292
+specific-content 3 1 4 404894
+specific-content 3 1 4 660124
+specific-content 6 3 4 658537
 gas-heat 0 0 0 300000
 gas-heat 100000 0 0 300000
 gas-heat 100001 0 0 300000
@@ -112,7 +134,7 @@ walk 1 0 0 300000 0 0 0 1000000000000000001
 walk 1 0 0 300000 0 0 0 -1000000000000000000
 walk 1 0 0 300000 0 0 0 -1000000000000000001";
 
-/// w and the key; blank, infinite and not a number; a station's range.
+/// w and the key; blank, infinite and not a number; a station's range and its ties.
 const MARKING: &str = "\
 mark kelvins x4069100000000000 200500 0
 mark kelvins x4069100000000000 200500 100000
@@ -139,4 +161,20 @@ mark kelvins xffffffffffffffff 0 0
 station 3 1 4 199999
 station 3 1 4 200000
 station 3 1 4 2000000
-station 3 1 4 2000001";
+station 3 1 4 2000001
+station 1 0 1 288159
+station 1 0 2 221121
+station 1 0 2 221122
+station 1 0 2 221123
+station 1 0 2 227869
+station 1 0 2 227870
+station 1 0 2 227871
+station 1 0 2 293145
+station 1 0 2 293146
+station 1 0 2 293147
+station 1 0 2 317221
+station 1 0 2 317222
+station 1 0 2 317223
+station 1 0 2 403697
+station 1 0 2 403698
+station 1 0 2 403699";

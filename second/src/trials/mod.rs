@@ -2,6 +2,7 @@
 
 pub mod ask;
 pub mod gas;
+pub mod halves;
 pub mod limits;
 pub mod marks;
 pub mod misfits;

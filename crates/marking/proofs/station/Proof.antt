@@ -7,7 +7,7 @@ use Prim.Native.Nat.{_^_, _≤_}
 use lib.IntN.{ℤ, natAbs}
 use mir.Syntax.{w64}
 use mir.Val.{SFits}
-use Rattle.signed.specs.Zed.{back, apart, is-self, fits-from}
+use Rattle.signed.specs.Zed.{back, apart, abs-parts, is-self, fits-from}
 use Rattle.refusal.specs.Refusals.{gives}
 use Rattle.refusal.specs.OrdersLaws.{told-through, stopped-first}
 use Rattle.sheet.specs.Answers.{paperSheet}
@@ -17,7 +17,6 @@ use Rattle.burning.specs.Answers.{chargeLines}
 use Rattle.gas.specs.Answers.{temperatureLines, heatOrder}
 use Rattle.marking.specs.declared.inner.StationNumbers.{StationNumbers}
 use Rattle.marking.specs.Figures.{figuresOf, numbersOf, numbersTold, paperNumbers}
-use Rattle.marking.specs.FiguresLaws.{abs-parts}
 use Rattle.marking.specs.StationLaws.{Small, numbers-small}
 use Rattle.marking.proofs.station.Statement.{statement}
 use Rattle.marking.proofs.station.Tie as tie

@@ -1,4 +1,4 @@
--- `specific_at`: the content over the total mass, which is not zero, the fraction dropped toward zero.
+-- `specific_at`: the content by the total mass, which is above zero, to the nearest whole number.
 use borrow.Author.Needs.{needs}
 use mathlib.Core.Path.{refl, _∙_}
 use mir.Val.{SFits}
@@ -14,17 +14,17 @@ content-at-requires c κs = search needs
 total-mass-requires : tie.Need-total-mass-requires
 total-mass-requires c κs = search needs
 
-quotient-requires : tie.Need-quotient-requires
-quotient-requires c κs = search needs
+nearest-requires : tie.Need-nearest-requires
+nearest-requires c κs = search needs
 
 returns : tie.Need-returns
 unfolding specificContent
 returns c =
     let at-content-at = c .before .before .before in
     let f : SFits w64 (at-content-at .content-at .result .0) = search needs in
-    let q : SFits w64 (c .quotient .result) = search needs in
-    back q ∙ c .quotient .ensures ∙ rw (back f, at-content-at .content-at .ensures, c .before .before .total-mass .ensures) refl
+    let q : SFits w64 (c .nearest .result) = search needs in
+    back q ∙ c .nearest .ensures ∙ rw (back f, at-content-at .content-at .ensures, c .before .before .total-mass .ensures) refl
 
 pub specific-at-spec : {M : Type 1} → statement M
 specific-at-spec =
-    tie.close (tie.spec content-at-requires total-mass-requires quotient-requires returns)
+    tie.close (tie.spec content-at-requires total-mass-requires nearest-requires returns)

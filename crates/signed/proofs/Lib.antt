@@ -1,0 +1,2 @@
+-- The two ways of `nearest`
+mod Rounding
