@@ -15,6 +15,7 @@ pub record Nearest (x : ℤ) (n : ℕ) (q : ℤ) : Type 0 where
 unfoldable pub carryOf : ℕ → ℕ → ℕ → ℕ
 carryOf q over lack = cond (ltb over lack) 0 (cond (ltb lack over) 1 (q % 2))
 
+-- a size by n: its quotient and what that gains
 unfoldable pub nearestℕ : ℕ → ℕ → ℕ
 nearestℕ m n = m / n + carryOf (m / n) (m % n) (n - m % n)
 
