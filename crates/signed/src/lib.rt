@@ -1,5 +1,5 @@
 // Signed 64-bit numbers: the few operations that the keys need of them, each equal to the whole-number operation that it stands for.
-// The promises cite ℤ alone. The laws that carry ℤ to the naturals, where facts of numbers are decided, are in specs/Zed.antt.
+// The promises cite ℤ alone. The laws that carry ℤ to the naturals, where facts of numbers are decided, are in specs/Zed.antt; how a number is rounded is said in specs/Nearest.antt.
 // Every number that comes in from outside is tested by `inside` first; past that test the work is done in u64.
 ghost use mathlib.Core.Path.{_≡_};
 ghost use Prim.Native.Nat.{_<_};
