@@ -27,7 +27,7 @@ use Rattle.air.specs.Readings.{reading, between, airHeat, NeverFalls}
 use Rattle.air.specs.ReadingsLaws.{between-line, grows-on}
 use Rattle.air.specs.InverseLaws.{rises-on}
 use Rattle.sheet.specs.Sheet.{o2, co2, h2o, Accepted}
-use Rattle.sheet.specs.SheetLaws.{accepted-step}
+use Rattle.sheet.specs.SheetLaws.{o2-never-falls}
 use Rattle.burning.specs.declared.Gas.{Gas}
 use Rattle.burning.specs.Burning.{document01, oxygenUsed, lean, Burns, totalMass}
 use Rattle.burning.specs.BurningLaws.{document01-sound}
@@ -66,7 +66,7 @@ unfolding airHeat
 air-up = between-up (grows-on H-grows)
 
 o2-up : {s : List ℕ} → Accepted s → (T U : ℕ) → coldest ≤ T → T ≤ U → U ≤ hottest → between (o2 s) T ≤ between (o2 s) U
-o2-up ok = between-up (record { step = λ k a b. accepted-step ok k a b .o2-up })
+o2-up ok = between-up (o2-never-falls ok)
 
 air-first : airHeat coldest ≡ 4776000
 unfolding rowsH column airH reading between airHeat

@@ -1,17 +1,14 @@
 -- The two ways of `nearest`: what each adds up fits, and is the nearest number, for it keeps the rule and no other number does. Assumes nothing.
 use Prim.Native.Nat.{ℕ, suc, _+_, _-_, _*_, _/_, _%_, _<_, _≤_}
-use mathlib.Core.Path.{_≡_, refl, sym, _∙_, subst}
+use mathlib.Core.Path.{_≡_, refl, sym, _∙_}
 use native.Mathlib.Nat.{mod-lt, mod-add-div', div-le-self, le-trans, lt-of-le-of-lt}
 use native.Mathlib.Omega.{arith}
 use lib.IntN.{ℤ, pos, negsuc, negℤ, _+ℤ_, _-ℤ_}
 use mir.Syntax.{w64}
-use mir.Val.{Fits, SFits, toZ, ofZ}
-use Rattle.signed.specs.Zed.{dn, back, same-by, is-pos, is-minus, is-neg, fits-from, fits-up, fits-dn, gap-gives}
+use mir.Val.{Fits, SFits}
+use Rattle.signed.specs.Zed.{read, back, same-by, is-pos, is-minus, is-neg, fits-from, fits-up, gap-gives, gap-most}
 use Rattle.signed.specs.Nearest.{Nearest, carryOf, nearestZ}
 use Rattle.signed.specs.NearestLaws.{carried, carried-most, turned, nearest-keeps, nearest-one}
-
-abbrev read : ℤ → ℤ
-read z = toZ w64 (ofZ w64 z)
 
 -- the quotient and the rest of a size by b
 module _ (n : ℕ) {b : ℕ} (o : 0 < b) where
@@ -70,11 +67,8 @@ module _ {a q c : ℤ} {n b : ℕ} (o : 0 < b) (f : SFits w64 a) (e : pos n ≡ 
   sum-nearest = back sum-fits ∙ sum-is fq fc eq ec ∙ nearest-one o (rw (e ∙ back f) at (above .nearest)) (nearest-keeps a o)
 
 -- a number below zero: n is how far it lies below -1
-size-le : {a : ℤ} {n : ℕ} → SFits w64 a → pos n ≡ negsuc 0 -ℤ read a → suc n ≤ 9223372036854775808
-size-le f e = subst (λ (z : ℤ). dn z ≤ 9223372036854775808) (gap-gives f e) (fits-dn f)
-
 pub below-fits : (b : ℕ) {a : ℤ} {n : ℕ} → SFits w64 a → pos n ≡ negsuc 0 -ℤ read a → n / b < 9223372036854775808
-below-fits b {n = n} f e = omega (arith, size-le f e, div-le-self n b)
+below-fits b {n = n} f e = omega (arith, gap-most f e, div-le-self n b)
 
 module _ {a q c : ℤ} {n b : ℕ} (o : 0 < b) (f : SFits w64 a) (e : pos n ≡ negsuc 0 -ℤ read a) (fq : SFits w64 q) (eq : q ≡ pos (n / b)) (fc : SFits w64 c)
     (ec : c ≡ pos (carryOf (n / b) (n % b + 1) (b - n % b - 1))) where
@@ -82,7 +76,7 @@ module _ {a q c : ℤ} {n b : ℕ} (o : 0 < b) (f : SFits w64 a) (e : pos n ≡ 
   below = rounds (n / b) (n % b + 1) (b - n % b - 1) o (omega (arith, mod-lt n o)) (omega (arith, mod-add-div' n b))
 
   pub less-fits : SFits w64 (read (pos 0 -ℤ read q) -ℤ read c)
-  less-fits = rw (less-is fq fc eq ec) (neg-fits (le-trans (below .most) (size-le f e)))
+  less-fits = rw (less-is fq fc eq ec) (neg-fits (le-trans (below .most) (gap-most f e)))
 
   pub less-nearest : read (read (pos 0 -ℤ read q) -ℤ read c) ≡ nearestZ a b
   less-nearest = back less-fits ∙ less-is fq fc eq ec ∙ nearest-one o (rw (sym (gap-gives f e)) at (turned (below .nearest))) (nearest-keeps a o)

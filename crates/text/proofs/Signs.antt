@@ -1,6 +1,6 @@
 -- The sign of a number, as the code tests and makes it. Assumes nothing.
 use Prim.Native.Nat.{ℕ, zero, suc, _+_, _-_, _≤_, _<_}
-use mathlib.Core.Path.{_≡_, refl, sym, _∙_, ap, subst}
+use mathlib.Core.Path.{_≡_, refl, sym, _∙_, ap}
 use mathlib.Core.Bool.{Bool, true, false}
 use mathlib.Core.List.{List, [], _∷_, _++_}
 use native.Mathlib.Omega.{arith}
@@ -13,7 +13,7 @@ use lib.ListN.{length, getD, take, drop, length-drop}
 use lib.Seq.{take-all}
 use mir.Syntax.{w64}
 use mir.Val.{Fits, SFits, toZ, ofZ}
-use Rattle.signed.specs.Zed.{dn, back, back-pos, same-by, is-minus, is-self, is-pos, fits-from, fits-dn, leZ-false, gap-gives, zed}
+use Rattle.signed.specs.Zed.{read, back, back-pos, same-by, is-minus, is-self, is-pos, fits-from, leZ-false, gap-gives, gap-most, zed}
 use Rattle.text.specs.Decimal.{decimal, decimalZ}
 use Rattle.text.specs.Wholes.{minusFirst, minusOf}
 use Rattle.text.specs.declared.Digits.{Digits}
@@ -60,9 +60,6 @@ spell-minus : (z : ℤ) → leZ (pos 0) z ≡ false → decimalZ z ≡ (45 ∷ [
 spell-minus (pos n) h = absurd (omega (zed, leZ-false (pos 0) (pos n) h))
 spell-minus (negsuc n) h = refl
 
-abbrev read : ℤ → ℤ
-read z = toZ w64 (ofZ w64 z)
-
 module _ (z : ℤ) (f : SFits w64 z) where
   pub size-plus : {n : ℕ} → pos n ≡ read z → n ≡ natAbs z
   size-plus {n} e = ap natAbs (e ∙ back f)
@@ -71,7 +68,7 @@ module _ (z : ℤ) (f : SFits w64 z) where
   size-minus {n} e = add-one n ∙ ap natAbs (sym (gap-gives f e))
 
   pub gap-fits : {n : ℕ} → pos n ≡ negsuc 0 -ℤ read z → Fits w64 (n + 1)
-  gap-fits {n} e = let h : suc n ≤ 9223372036854775808 = subst (λ (y : ℤ). dn y ≤ 9223372036854775808) (gap-gives f e) (fits-dn f) in record { fits = omega arith }
+  gap-fits {n} e = record { fits = omega (arith, gap-most f e) }
 
   pub decimalZ-plus : {n : ℕ} → leZ (pos 0) (read z) ≡ true → n ≡ natAbs (read z) → decimalZ z ≡ decimal n
   decimalZ-plus {n} h e = spell-plus z (rw (back f) at h) ∙ ap decimal (sym (e ∙ ap natAbs (back f)))
