@@ -22,8 +22,8 @@
  *
  * LISTS are lent as a pointer and a length in elements. A pointer is aligned, and a list that is written overlaps no other list of the same call. A pointer is not NULL
  * unless its length is 0; then it may be, as an empty std::vector of C++ gives it: nothing is read or written through it. A refusal changes no lent place, but for a
- * walk that a step stops, as said there. Nothing past the given length is read or written, nothing is kept after a call, and there is no state: any number of threads
- * may call at the same time.
+ * walk that a step stops and a piece of a sheet with whole rows before the bad one, as said there. Nothing past the given length is read or written, nothing is kept
+ * after a call, and there is no state: where the reading of a sheet in pieces stands is a value of the caller's. Any number of threads may call at the same time.
  *
  * STACK: a thread with 48 KB of stack can make every call, and one with 24 KB every call but gaskeys_read_sheet. Measured were 30 KB for gaskeys_read_sheet and at most
  * 14 KB for any other, the thread's own 4 KB among them; bindings/c/limits.c measures it again and passes NULL to every call.
@@ -90,6 +90,44 @@ typedef struct {
  * It judges the form of the text and not the step rule.
  * Refusals: 1, 2. Leaves: all 5,403 places written, or with a refusal none. */
 gaskeys_sheet_told gaskeys_read_sheet(const uint8_t *text, size_t text_length, uint32_t *list, size_t list_length);
+
+/* Where the reading of a sheet that arrives in pieces stands: handed in and told by value, to be kept between the calls and not changed. */
+typedef struct {
+    uint32_t stage;  /* 0: more is expected; 1: refused with 2 at `row`; 2: accepted */
+    uint32_t row;    /* the row at hand, 1,801 once all are read; or the bad row */
+    uint32_t field;  /* the field at hand: 0 kelvin, 1 O2, 2 CO2, 3 H2O */
+    uint32_t seen;   /* 1 where that field has a digit, else 0 */
+    uint32_t value;  /* its number so far */
+    uint32_t first;  /* the row's O2, once it is read */
+    uint32_t second; /* the row's CO2, once it is read */
+} gaskeys_sheet_reading;
+
+typedef struct {
+    uint32_t refusal; /* 0 with more 1: more is expected; 0 with more 0: the sheet is accepted */
+    uint32_t row;
+    uint32_t placed;
+    uint32_t more;                 /* 1 where more is expected, else 0 */
+    gaskeys_sheet_reading reading; /* to be handed in with the next call */
+} gaskeys_piece_told;
+
+/* The reading before any byte has come: all its fields are 0. */
+gaskeys_sheet_reading gaskeys_open_reading(void);
+
+/* Reads the next piece of a sheet's text, of any length, also 0; gaskeys_close_reading says that there is no more. However a text is cut, the numbers and the answer, or
+ * the refusal and its row, are those that gaskeys_read_sheet gives for it in one. The same list is lent each time, and left alone between the calls.
+ * Refusals: 1, 2 (with the piece that has the first byte after which no good sheet can follow). Leaves: the rows whose line feed is in the piece written, also those before
+ * a bad row, and all other places as they were; with refusal 1 all places, and the reading too, so that it goes on with the next call. Once the sheet is refused with 2
+ * or accepted the reading is at its end: all of its fields but the stage and the bad row are 0, and this call and the next one change nothing and tell the same again.
+ * A reading of any other numbers has a meaning too, and is told back in plain ones. A stage over 2 is 1, a `seen` over 1 is 1, a field over 3 is 3. At stage 0 it goes on from its place, whatever that is:
+ * from row 1,801 on any byte is refused at that row. A digit follows in field 0 where the number with it begins the digits of 200 + row (0 begins none), in another where the
+ * field has no digit yet or its number is not 0, and the number with it is at most 200,000. A tab, in field 3 a line feed, follows in field 0 where the number is 200 + row, in
+ * another where it has a digit. A line feed writes first, second and value. */
+gaskeys_piece_told gaskeys_read_piece(gaskeys_sheet_reading reading, const uint8_t *piece, size_t piece_length, uint32_t *list, size_t list_length);
+
+/* Says that the text has ended: a sheet whose 1,801 rows were read is accepted, and any other is refused at the row at hand. The list is the one that was lent for the
+ * pieces; nothing but its length is looked at.
+ * Refusals: 1, 2 (the text ends too soon). */
+gaskeys_piece_told gaskeys_close_reading(gaskeys_sheet_reading reading, const uint32_t *list, size_t list_length);
 
 /* Judges a sheet list, as every call below that takes a sheet does first.
  * Refusals: 1, 3. */

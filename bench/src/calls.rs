@@ -1,8 +1,8 @@
 //! The calls of one side, and what a row of the table asks of them.
 
 use gaskeys::raw::{
-    self, HeatTold, MarkTold, PsiTold, SheetTold, StationTold, TemperatureTold, WalkTold,
-    WrittenTold,
+    self, HeatTold, MarkTold, PieceTold, PsiTold, SheetReading, SheetTold, StationTold,
+    TemperatureTold, WalkTold, WrittenTold,
 };
 use gaskeys::SHEET_TEXT_MOST;
 use second::gas::Charge;
@@ -10,6 +10,10 @@ use second::gas::Charge;
 /// The calls of include/gaskeys.h that are measured. Each field has the signature of the call of its name.
 pub struct Calls {
     pub read_sheet: unsafe extern "C" fn(*const u8, usize, *mut u32, usize) -> SheetTold,
+    pub open_reading: unsafe extern "C" fn() -> SheetReading,
+    pub read_piece:
+        unsafe extern "C" fn(SheetReading, *const u8, usize, *mut u32, usize) -> PieceTold,
+    pub close_reading: unsafe extern "C" fn(SheetReading, *const u32, usize) -> PieceTold,
     pub judge_sheet: unsafe extern "C" fn(*const u32, usize) -> SheetTold,
     pub write_sheet: unsafe extern "C" fn(*const u32, usize, *mut u8, usize) -> WrittenTold,
     pub specific_content: unsafe extern "C" fn(i64, i64, i64, i64, *const u32, usize) -> HeatTold,
@@ -46,6 +50,9 @@ pub struct Calls {
 
 pub const PROVED: Calls = Calls {
     read_sheet: raw::gaskeys_read_sheet,
+    open_reading: raw::gaskeys_open_reading,
+    read_piece: raw::gaskeys_read_piece,
+    close_reading: raw::gaskeys_close_reading,
     judge_sheet: raw::gaskeys_judge_sheet,
     write_sheet: raw::gaskeys_write_sheet,
     specific_content: raw::gaskeys_specific_content,
@@ -55,6 +62,9 @@ pub const PROVED: Calls = Calls {
     station: raw::gaskeys_station,
     mark: raw::gaskeys_mark,
 };
+
+/// The bytes of a piece of a sheet, as a packet of a network brings them.
+const PIECE: usize = 1_460;
 
 /// A charge, a temperature and steps.
 pub type Walk = (Charge, i64, Vec<i64>);
@@ -67,6 +77,7 @@ pub enum Inputs {
     Stations(Vec<(Charge, i64)>),
     Sheet,
     Text(Vec<u8>),
+    Pieces(Vec<u8>),
     Written,
     Psis(Vec<i64>),
     Marks(Vec<(f64, i64)>),
@@ -79,7 +90,7 @@ impl Inputs {
             Inputs::Heats(inputs) | Inputs::Specifics(inputs) | Inputs::Stations(inputs) => {
                 inputs.len()
             }
-            Inputs::Sheet | Inputs::Text(_) | Inputs::Written => 1,
+            Inputs::Sheet | Inputs::Text(_) | Inputs::Pieces(_) | Inputs::Written => 1,
             Inputs::Psis(targets) => targets.len(),
             Inputs::Marks(inputs) => inputs.len(),
         }
@@ -138,6 +149,7 @@ pub fn ask(calls: &Calls, inputs: &Inputs, i: usize, lists: &mut Lists) -> u64 {
                     (calls.read_sheet)(text.as_ptr(), text.len(), lists.read.as_mut_ptr(), n);
                 mix(&[told.refusal as i64, lists.read[0] as i64, lists.read[n - 1] as i64])
             }
+            Inputs::Pieces(text) => pieces(calls, text, &mut lists.read),
             Inputs::Written => {
                 let (text, most) = (lists.written.as_mut_ptr(), lists.written.len());
                 let told = (calls.write_sheet)(sheet, n, text, most);
@@ -152,6 +164,21 @@ pub fn ask(calls: &Calls, inputs: &Inputs, i: usize, lists: &mut Lists) -> u64 {
             Inputs::Marks(inputs) => (calls.mark)(0, inputs[i].0, inputs[i].1, 100).counts as u64,
         }
     }
+}
+
+/// A whole reading: opened, read piece by piece, and closed.
+fn pieces(calls: &Calls, text: &[u8], list: &mut [u32]) -> u64 {
+    let n = list.len();
+    // SAFETY: as in `ask`.
+    let told = unsafe {
+        let mut reading = (calls.open_reading)();
+        for piece in text.chunks(PIECE) {
+            let lent = list.as_mut_ptr();
+            reading = (calls.read_piece)(reading, piece.as_ptr(), piece.len(), lent, n).reading;
+        }
+        (calls.close_reading)(reading, list.as_ptr(), n)
+    };
+    mix(&[told.refusal, told.more, told.reading.stage, list[0], list[n - 1]].map(i64::from))
 }
 
 fn walk(calls: &Calls, walk: &Walk, lists: &mut Lists) -> u64 {

@@ -20,6 +20,7 @@ pub fn rows(list: &[u32]) -> Vec<(&'static str, Inputs)> {
         ("station", Inputs::Stations(draw(|| state(dice)))),
         ("sheet judged", Inputs::Sheet),
         ("sheet read", Inputs::Text(sheet::text(list).into_bytes())),
+        ("sheet in pieces", Inputs::Pieces(sheet::text(list).into_bytes())),
         ("sheet written", Inputs::Written),
         ("psi inverse", Inputs::Psis(draw(|| dice.from_to(95_264_000, 133_150_999)))),
         ("mark, short fractions", Inputs::Marks(draw(|| mark(dice, 3_600, 2.0)))),

@@ -29,6 +29,33 @@ static void read_text(void) {
     printf("the sheet: read %" PRIu32 ", judged %" PRIu32 "\n", read.refusal, judged.refusal);
 }
 
+/* That text in pieces. A row has ten bytes here, so the first piece of 15 ends in row 1 behind `201`, a tab and a 0, in its field 1; the second holds nothing. A list that
+ * is too short is refused with 1, and the reading goes on. After the last row more is expected, and the close accepts. */
+static void read_pieces(void) {
+    const size_t length = write_text(), cut = 15;
+    gaskeys_sheet_reading reading = gaskeys_open_reading();
+    gaskeys_piece_told begun = gaskeys_read_piece(reading, text, cut, sheet, PLACES);
+    printf("a piece of %zu bytes: more %" PRIu32 ", row %" PRIu32 ", field %" PRIu32 "\n", cut, begun.more, begun.reading.row, begun.reading.field);
+    gaskeys_piece_told empty = gaskeys_read_piece(begun.reading, NULL, 0, sheet, PLACES);
+    gaskeys_piece_told refused = gaskeys_read_piece(empty.reading, text + cut, length - cut, sheet, PLACES - 1);
+    gaskeys_piece_told rest = gaskeys_read_piece(refused.reading, text + cut, length - cut, sheet, PLACES);
+    gaskeys_piece_told closed = gaskeys_close_reading(rest.reading, sheet, PLACES);
+    printf("nothing: more %" PRIu32 "; a list too short: refusal %" PRIu32 "; the rest: more %" PRIu32 "; closed: refusal %" PRIu32 ", more %" PRIu32 "\n", empty.more,
+           refused.refusal, rest.more, closed.refusal, closed.more);
+}
+
+/* Row 2 is bad from its third byte on, 203 for 202: the rows before it are in the list, and the place after them is 0 as it was. */
+static void read_bad_piece(void) {
+    static const uint8_t piece[] = "200\t1\t2\t3\n201\t4\t5\t6\n203\t7\t8\t9\n";
+    gaskeys_piece_told told = gaskeys_read_piece(gaskeys_open_reading(), piece, sizeof piece - 1, sheet, PLACES);
+    gaskeys_piece_told again = gaskeys_close_reading(told.reading, sheet, PLACES);
+    printf("a bad piece: refusal %" PRIu32 " at row %" PRIu32 ", and again %" PRIu32 " at row %" PRIu32 "; its rows before:", told.refusal, told.row, again.refusal, again.row);
+    for (int i = 0; i < 7; i++) {
+        printf(" %" PRIu32, sheet[i]);
+    }
+    printf("\n");
+}
+
 static void print_walk(const gaskeys_walk_told *told, const int64_t *temperatures, const int64_t *rests, const uint32_t *looks) {
     printf("step\tmK\trest\tlooks\n");
     for (uint32_t i = 0; i < told->steps; i++) {
@@ -107,6 +134,8 @@ static void write_back(void) {
 
 int main(void) {
     printf("version %d, and the archive's %" PRIu32 "\n", GASKEYS_VERSION, gaskeys_version_2());
+    read_bad_piece();
+    read_pieces();
     read_text();
     walk();
     air();

@@ -19,6 +19,9 @@ static _Alignas(4096) unsigned char stack[STACK];
 static const int64_t air = 100000, carbon = 21500, hydrogen = 41429, millikelvin = 1465757, target = 304760024644255488;
 
 static void read_sheet(void) { gaskeys_read_sheet(text, length, list, PLACES); }
+static void open_reading(void) { gaskeys_open_reading(); }
+static void read_piece(void) { gaskeys_read_piece(gaskeys_open_reading(), text, length, list, PLACES); }
+static void close_reading(void) { gaskeys_close_reading(gaskeys_open_reading(), list, PLACES); }
 static void judge_sheet(void) { gaskeys_judge_sheet(sheet, PLACES); }
 static void built_in_sheet(void) { gaskeys_built_in_sheet(list, PLACES); }
 static void write_sheet(void) { gaskeys_write_sheet(sheet, PLACES, written, sizeof written); }
@@ -43,6 +46,9 @@ typedef struct {
 
 static const call calls[] = {
     {"read_sheet", read_sheet, 49152},
+    {"open_reading", open_reading, 24576},
+    {"read_piece", read_piece, 24576},
+    {"close_reading", close_reading, 24576},
     {"judge_sheet", judge_sheet, 24576},
     {"built_in_sheet", built_in_sheet, 24576},
     {"write_sheet", write_sheet, 24576},
@@ -113,8 +119,13 @@ static int wrong(const char *name, uint32_t refusal, uint32_t right) {
 }
 
 static int null_is_read(void) {
+    const gaskeys_sheet_reading begun = gaskeys_open_reading();
     return wrong("read_sheet", gaskeys_read_sheet(NULL, 0, list, PLACES).refusal, GASKEYS_SHEET_TEXT) |
            wrong("read_sheet", gaskeys_read_sheet(text, length, NULL, 0).refusal, GASKEYS_SHEET_LENGTH) |
+           wrong("read_piece", gaskeys_read_piece(begun, NULL, 0, list, PLACES).refusal, 0) |
+           wrong("read_piece", gaskeys_read_piece(begun, text, length, NULL, 0).refusal, GASKEYS_SHEET_LENGTH) |
+           wrong("read_piece", gaskeys_read_piece(begun, NULL, 0, NULL, 0).refusal, GASKEYS_SHEET_LENGTH) |
+           wrong("close_reading", gaskeys_close_reading(begun, NULL, 0).refusal, GASKEYS_SHEET_LENGTH) |
            wrong("judge_sheet", gaskeys_judge_sheet(NULL, 0).refusal, GASKEYS_SHEET_LENGTH) |
            wrong("built_in_sheet", gaskeys_built_in_sheet(NULL, 0).refusal, GASKEYS_SHEET_LENGTH) |
            wrong("write_sheet", gaskeys_write_sheet(NULL, 0, written, sizeof written).refusal, GASKEYS_SHEET_LENGTH) |

@@ -1,8 +1,8 @@
-//! The forms of `keys` (docs/PROGRAM.md) that read requests, a question or a sheet file, or write a sheet: what a run has to write.
+//! The forms of `keys` (docs/PROGRAM.md) that read requests, a question or a sheet, or write a sheet: what a run has to write.
 
 use std::collections::BTreeMap;
 use std::path::Path;
-use std::{fs, io};
+use std::{fs, io, str};
 
 use crate::answer::{answer, numbers, say_refused};
 use crate::gas::Charge;
@@ -11,12 +11,24 @@ use crate::refusal::Refusal;
 use crate::sheet;
 use crate::walk::{printed, walk, Lent, Outcome, State};
 
-/// A run: its words, its standard input, and the files of the folder that it is run in.
+/// A run: its words, its standard input and how that is handed over, and the files of the folder that it is run in.
 pub struct Run {
     pub words: Vec<String>,
-    pub input: String,
+    pub input: Vec<u8>,
+    pub pieces: Option<Pieces>,
     pub files: BTreeMap<String, Vec<u8>>,
 }
+
+/// How an input is handed over through a pipe: in pieces of these lengths, each once the one before is taken, and the rest as one last
+/// piece. Where it stays open the program has to end by itself.
+#[derive(Clone, Debug, PartialEq, Eq)]
+pub struct Pieces {
+    pub lengths: Vec<usize>,
+    pub stays_open: bool,
+}
+
+/// The last line of the file `pieces` of an input that stays open.
+const OPEN: &str = "open";
 
 /// What a run writes to standard output and to standard error.
 #[derive(Debug, PartialEq, Eq)]
@@ -32,9 +44,9 @@ struct Given {
 }
 
 impl Run {
-    pub fn new(words: &[&str], input: String) -> Run {
+    pub fn new(words: &[&str], input: impl Into<Vec<u8>>) -> Run {
         let words = words.iter().map(|word| word.to_string()).collect();
-        Run { words, input, files: BTreeMap::new() }
+        Run { words, input: input.into(), pieces: None, files: BTreeMap::new() }
     }
 
     /// The run with one more file beside it.
@@ -43,14 +55,18 @@ impl Run {
         self
     }
 
-    /// The run that a folder has: `args` with a word a line, `stdin`, and `data/`; what is not there is empty.
+    /// The run with its input handed over in pieces.
+    pub fn handed(mut self, pieces: Pieces) -> Run {
+        self.pieces = Some(pieces);
+        self
+    }
+
+    /// The run that a folder has: `args` with a word a line, `stdin`, `pieces`, and `data/`; what is not there is empty.
     pub fn load(folder: &Path) -> io::Result<Run> {
-        let held = |name: &str| match fs::read_to_string(folder.join(name)) {
-            Err(error) if error.kind() == io::ErrorKind::NotFound => Ok(String::new()),
-            read => read,
-        };
-        let words: Vec<String> = held("args")?.lines().map(str::to_string).collect();
-        let mut run = Run { words, input: held("stdin")?, files: BTreeMap::new() };
+        let args = held(&folder.join("args"))?.unwrap_or_default();
+        let words: Vec<&str> = text_of(&args).lines().collect();
+        let mut run = Run::new(&words, held(&folder.join("stdin"))?.unwrap_or_default());
+        run.pieces = held(&folder.join("pieces"))?.map(|file| Pieces::of(text_of(&file)));
         if folder.join("data").is_dir() {
             for file in fs::read_dir(folder.join("data"))? {
                 let file = file?;
@@ -65,34 +81,84 @@ impl Run {
     pub fn save(&self, folder: &Path) -> io::Result<()> {
         let Written { output, error } = self.written();
         let args: String = self.words.iter().map(|word| format!("{word}\n")).collect();
+        let pieces = self.pieces.as_ref().map(Pieces::file);
         fs::create_dir_all(folder.join("data"))?;
-        for (name, text) in
-            [("args", &args), ("stdin", &self.input), ("stdout", &output), ("stderr", &error)]
-        {
+        let texts = [("args", args), ("stdout", output), ("stderr", error)];
+        for (name, text) in texts.into_iter().chain(pieces.map(|text| ("pieces", text))) {
             fs::write(folder.join(name), text)?;
         }
+        fs::write(folder.join("stdin"), &self.input)?;
         for (name, bytes) in &self.files {
             fs::write(folder.join("data").join(name), bytes)?;
         }
         Ok(())
     }
 
-    /// What the run has to write. Its words are one of the four forms.
+    /// The input of a form that reads text alone.
+    pub fn text(&self) -> &str {
+        text_of(&self.input)
+    }
+
+    /// What the run has to write. Its words are one of the forms below.
     pub fn written(&self) -> Written {
         let words: Vec<&str> = self.words.iter().map(String::as_str).collect();
+        assert!(!self.waits_forever(), "{words:?} is not decided by its input, which stays open");
+        if let ["sheet", file @ ..] = &words[..] {
+            return verdict(Given::of(self.judged(file)));
+        }
         let (form, sheet) = match words[..] {
             [ref form @ .., "--sheet", name] => (form, Given::of(&self.files[name])),
             _ => (&words[..], Given::built_in()),
         };
         match form {
-            ["ask"] => ask(&self.input, sheet),
-            ["walk"] => walk_page(&self.input, sheet),
+            ["ask"] => ask(self.text(), sheet),
+            ["walk"] => walk_page(self.text(), sheet),
             ["walk", name] => walk_page(&String::from_utf8_lossy(&self.files[*name]), sheet),
-            ["sheet", name] => verdict(Given::of(&self.files[*name])),
             ["write"] => sheet_text(sheet),
             _ => panic!("{words:?} is no form whose output is made here"),
         }
     }
+
+    /// The sheet that `keys sheet` judges: that of its file, or the one on standard input.
+    fn judged(&self, file: &[&str]) -> &[u8] {
+        match file {
+            [] => &self.input,
+            [name] => &self.files[*name],
+            _ => panic!("sheet {file:?} is no form"),
+        }
+    }
+
+    /// Whether the input stays open and a good sheet could follow it.
+    fn waits_forever(&self) -> bool {
+        let stays_open = self.pieces.as_ref().is_some_and(|pieces| pieces.stays_open);
+        stays_open && sheet::first_bad_byte(&self.input).is_none()
+    }
+}
+
+impl Pieces {
+    /// What the file of a run has: a length a line.
+    fn of(file: &str) -> Pieces {
+        let (lengths, open): (Vec<&str>, Vec<&str>) = file.lines().partition(|line| *line != OPEN);
+        let length = |line: &str| line.parse().expect("a length of a piece");
+        Pieces { lengths: lengths.into_iter().map(length).collect(), stays_open: !open.is_empty() }
+    }
+
+    fn file(&self) -> String {
+        let lengths = self.lengths.iter().map(|length| format!("{length}\n"));
+        lengths.chain(self.stays_open.then(|| format!("{OPEN}\n"))).collect()
+    }
+}
+
+/// What a file holds, if it is there.
+fn held(file: &Path) -> io::Result<Option<Vec<u8>>> {
+    match fs::read(file) {
+        Err(error) if error.kind() == io::ErrorKind::NotFound => Ok(None),
+        read => read.map(Some),
+    }
+}
+
+fn text_of(bytes: &[u8]) -> &str {
+    str::from_utf8(bytes).expect("words, lengths, requests and questions are text")
 }
 
 impl Given {
@@ -100,11 +166,9 @@ impl Given {
         Given { list: Ok(sheet::built_in()), said: String::new() }
     }
 
-    /// The sheet of a file.
+    /// The sheet of a text.
     fn of(text: &[u8]) -> Given {
-        let list = read(text);
-        let said = returned_row(text, &list);
-        Given { list, said }
+        Given { list: read(text), said: returned_row(text) }
     }
 }
 
@@ -116,17 +180,12 @@ fn read(text: &[u8]) -> Result<Vec<u32>, Refusal> {
     Ok(list)
 }
 
-/// The line for a text that is refused at a row which has a carriage return.
-fn returned_row(text: &[u8], list: &Result<Vec<u32>, Refusal>) -> String {
-    match list {
-        Err(Refusal { number: 2, row: Some(row) }) => {
-            let bad = text.split(|byte| *byte == b'\n').nth(*row as usize).unwrap_or_default();
-            let line = format!("row {row} has a carriage return; lines end in a line feed alone\n");
-            if bad.contains(&b'\r') {
-                line
-            } else {
-                String::new()
-            }
+/// The line for a text that is refused for a carriage return: the first byte after which no good sheet can follow is one.
+fn returned_row(text: &[u8]) -> String {
+    match sheet::first_bad_byte(text) {
+        Some(at) if text[at] == b'\r' => {
+            let row = text[..at].iter().filter(|byte| **byte == b'\n').count();
+            format!("row {row} has a carriage return; lines end in a line feed alone\n")
         }
         _ => String::new(),
     }

@@ -41,17 +41,26 @@ pub fn first_bad_row(bytes: &[u8]) -> Option<usize> {
     bad.or((whole < ROWS).then_some(whole))
 }
 
+/// The first byte after which no good sheet can follow, by its place, if there is one.
+pub fn first_bad_byte(bytes: &[u8]) -> Option<usize> {
+    let (row, bad) =
+        lines(bytes).enumerate().find(|(row, begun)| !good_line_can_follow(*row, begun))?;
+    let before: usize = lines(bytes).take(row).map(|line| line.len()).sum();
+    let spoils = |at: &usize| !good_line_can_follow(row, &bad[..=*at]);
+    (0..bad.len()).find(spoils).map(|at| before + at)
+}
+
 /// Whether some good line of the row begins with these bytes. The end of the row's line with three
 /// zeros is put behind them: if any end makes a good line, one of those does, since a number
 /// begun is a number, and a number not begun can be 0.
-fn good_line_can_follow(row: usize, begun: &[u8]) -> bool {
+pub(crate) fn good_line_can_follow(row: usize, begun: &[u8]) -> bool {
     let zeros = line(row, [0, 0, 0]).into_bytes();
     let mut wholes = (0..=zeros.len()).rev().map(|from| [begun, &zeros[from..]].concat());
     wholes.any(|whole| good_line(row, &whole).is_some())
 }
 
 /// The gases of a good line of the row: the line that these gases have, none over the limit.
-fn good_line(row: usize, bytes: &[u8]) -> Option<Gases> {
+pub(crate) fn good_line(row: usize, bytes: &[u8]) -> Option<Gases> {
     let fields = std::str::from_utf8(bytes).ok()?.trim_end().split('\t').skip(1);
     let numbers = fields.map(|field| field.parse().ok()).collect::<Option<Vec<u32>>>()?;
     let gases: Gases = numbers.try_into().ok()?;
@@ -60,7 +69,7 @@ fn good_line(row: usize, bytes: &[u8]) -> Option<Gases> {
 }
 
 /// The bytes cut behind each line feed; the last piece may have none.
-fn lines(bytes: &[u8]) -> impl Iterator<Item = &[u8]> {
+pub(crate) fn lines(bytes: &[u8]) -> impl Iterator<Item = &[u8]> {
     bytes.split_inclusive(|b| *b == b'\n')
 }
 

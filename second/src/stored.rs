@@ -8,12 +8,16 @@ use crate::program::{Run, Written};
 use crate::trials::ask;
 
 /// The forms whose output is made; what the others write is in docs/PROGRAM.md and docs/FAILURES.md.
-const FORMS: [&str; 14] = [
+const FORMS: [&str; 18] = [
     "ask",
     "ask-refused",
     "ask-return",
     "sheet",
     "sheet-refused",
+    "sheet-stdin",
+    "sheet-stdin-open",
+    "sheet-stdin-refused",
+    "sheet-stdin-unfinished",
     "walk",
     "walk-bad",
     "walk-file",
@@ -56,9 +60,10 @@ pub fn files(dir: &Path) -> Result<Vec<(String, String)>, String> {
 
 /// Every row, both sides of every limit, and requests of every kind, over the built-in sheet.
 pub fn trial_ask() -> Vec<(String, String)> {
-    let run = Run::new(&["ask"], ask::requests().iter().map(|line| format!("{line}\n")).collect());
+    let requests: String = ask::requests().iter().map(|line| format!("{line}\n")).collect();
+    let run = Run::new(&["ask"], requests);
     let Written { output, error } = run.written();
     assert!(error.is_empty() && !output.lines().any(|answer| answer.starts_with("error")));
     let file = |name: &str, text: String| (format!("crates/trial_ask/{name}"), text);
-    vec![file("stdin", run.input), file("stdout", output)]
+    vec![file("stdin", run.text().to_string()), file("stdout", output)]
 }

@@ -2,7 +2,7 @@
 
 use second::dice::Dice;
 use second::refusal::Refusal;
-use second::sheet::{built_in, first_bad_row, judge, read, text, write, PLACES};
+use second::sheet::{built_in, first_bad_byte, first_bad_row, judge, read, text, write, PLACES};
 use second::table::table;
 use second::trials::sheets::{accepted, bases, limit_texts, random, random_text};
 
@@ -134,6 +134,7 @@ fn first_bad_row_is_the_row_of_the_first_byte_that_spoils() {
             (false, row) => Some(row),
         };
         assert_eq!(first_bad_row(&bytes), expected);
+        assert_eq!(first_bad_byte(&bytes), (spoilt < bytes.len()).then_some(spoilt));
     }
 }
 

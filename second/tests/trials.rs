@@ -91,7 +91,7 @@ fn a_seed_asks_ties_of_every_kind_over_thirty_sheets() {
         let mut lists = BTreeSet::new();
         for (run, written) in made().iter().filter(|(run, _)| run.words[0] == "ask") {
             if let Some(list) = list_of(run) {
-                let ties = ties(word, &run.input, &written.output, &list);
+                let ties = ties(word, run.text(), &written.output, &list);
                 lists.extend(TIES.iter().all(|tie| ties.contains_key(tie)).then_some(list));
             }
         }
@@ -117,7 +117,7 @@ fn a_seed_asks_many_of_each() {
         ("mark", 140_000),
     ];
     for (word, least) in least {
-        let lines = of("ask").flat_map(|(run, _)| run.input.lines());
+        let lines = of("ask").flat_map(|(run, _)| run.text().lines());
         let asked = lines.filter(|line| line.split('\t').next() == Some(word)).count();
         assert!(asked >= least, "{word} {asked}");
     }
@@ -165,9 +165,43 @@ fn a_seed_writes_the_shortest_sheet_and_the_longest_and_meets_both_refusals() {
     }
 }
 
+/// Whether a run's input is handed over in pieces whose lengths are all as the condition says.
+fn handed(run: &Run, length: impl Fn(usize) -> bool) -> bool {
+    run.pieces.as_ref().is_some_and(|pieces| pieces.lengths.iter().all(|n| length(*n)))
+}
+
+#[test]
+fn a_seed_hands_sheets_over_in_pieces() {
+    let arriving = || made().iter().filter(|(run, _)| run.words == ["sheet"]);
+    let refused = |written: &Written| written.output.starts_with("refused\t2");
+    assert!(arriving().filter(|(run, _)| run.pieces.is_none()).count() >= 20);
+    for (output, least) in [("accepted\n", 25), ("refused\t2\t1801\n", 3), ("refused\t3", 10)] {
+        let cut = arriving()
+            .filter(|(run, written)| run.pieces.is_some() && written.output.starts_with(output));
+        assert!(cut.clone().count() >= least, "{output} {}", cut.count());
+    }
+    let open = |run: &Run| run.pieces.as_ref().is_some_and(|pieces| pieces.stays_open);
+    let (stay, end): (Vec<_>, Vec<_>) =
+        arriving().filter(|(_, written)| refused(written)).partition(|(run, _)| open(run));
+    assert!(stay.len() >= 60 && end.len() >= 60, "{} {}", stay.len(), end.len());
+    let by_bytes = arriving().filter(|(run, _)| handed(run, |n| n == 1));
+    assert!(by_bytes.clone().count() >= 80);
+    assert!(by_bytes.into_iter().any(|(_, written)| written.output == "accepted\n"));
+}
+
+#[test]
+fn a_seed_has_texts_far_longer_than_a_sheet_from_both_sides() {
+    let long = |bytes: &[u8]| bytes.len() > 300_000;
+    let of = |found: &dyn Fn(&Run) -> bool| made().iter().filter(|(run, _)| found(run)).count();
+    assert_eq!(of(&|run| long(&run.input) && run.words == ["sheet"] && run.pieces.is_none()), 1);
+    assert_eq!(of(&|run| long(&run.input) && run.words == ["sheet"] && run.pieces.is_some()), 1);
+    assert_eq!(of(&|run| run.words[0] == "sheet" && run.files.values().any(|t| long(t))), 1);
+}
+
 #[test]
 fn a_seed_is_always_the_same_and_no_other() {
-    let inputs = |seed| runs(seed).into_iter().map(|(name, run)| (name, run.input, run.files));
+    let inputs =
+        |seed| runs(seed).into_iter().map(|(name, run)| (name, run.input, run.pieces, run.files));
     assert!(inputs(1).eq(inputs(1)));
     assert!(inputs(1).ne(inputs(2)));
 }

@@ -5,6 +5,7 @@ mod air;
 pub mod ask;
 mod gas;
 mod marking;
+mod pieces;
 mod reader;
 mod sheet;
 mod walk;
@@ -13,7 +14,8 @@ mod writer;
 use crate::calls::Calls;
 use gas::Charge;
 use gaskeys::raw::{
-    HeatTold, MarkTold, PsiTold, SheetTold, StationTold, TemperatureTold, WalkTold, WrittenTold,
+    HeatTold, MarkTold, PieceTold, PsiTold, SheetReading, SheetTold, StationTold, TemperatureTold,
+    WalkTold, WrittenTold,
 };
 use std::slice::{from_raw_parts, from_raw_parts_mut};
 
@@ -31,6 +33,9 @@ fn placed(refusal: u32) -> u32 {
 
 pub const PLAIN: Calls = Calls {
     read_sheet,
+    open_reading,
+    read_piece,
+    close_reading,
     judge_sheet,
     write_sheet,
     specific_content,
@@ -48,6 +53,24 @@ fn sheet_told(answer: Result<(), Refused>) -> SheetTold {
 
 unsafe extern "C" fn read_sheet(text: *const u8, n: usize, list: *mut u32, m: usize) -> SheetTold {
     sheet_told(reader::read(from_raw_parts(text, n), from_raw_parts_mut(list, m)))
+}
+
+unsafe extern "C" fn open_reading() -> SheetReading {
+    pieces::open()
+}
+
+unsafe extern "C" fn read_piece(
+    reading: SheetReading,
+    piece: *const u8,
+    n: usize,
+    list: *mut u32,
+    m: usize,
+) -> PieceTold {
+    pieces::read(reading, from_raw_parts(piece, n), from_raw_parts_mut(list, m))
+}
+
+unsafe extern "C" fn close_reading(reading: SheetReading, list: *const u32, n: usize) -> PieceTold {
+    pieces::close(reading, from_raw_parts(list, n))
 }
 
 unsafe extern "C" fn judge_sheet(list: *const u32, n: usize) -> SheetTold {

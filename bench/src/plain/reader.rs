@@ -5,13 +5,13 @@ use super::Refused;
 
 /// Where the reader stands: the row, the field in it, the number so far and whether it has a digit, and the row's first two numbers.
 #[derive(Default)]
-struct Place {
-    row: u32,
-    field: u8,
-    value: u32,
-    seen: bool,
-    first: u32,
-    second: u32,
+pub struct Place {
+    pub row: u32,
+    pub field: u8,
+    pub value: u32,
+    pub seen: bool,
+    pub first: u32,
+    pub second: u32,
 }
 
 /// 1, 2 with the first bad row.
@@ -36,7 +36,7 @@ pub fn read(text: &[u8], list: &mut [u32]) -> Result<(), Refused> {
 
 impl Place {
     /// Moves on by a byte; false where no good sheet can follow after it.
-    fn step(&mut self, byte: u8) -> bool {
+    pub fn step(&mut self, byte: u8) -> bool {
         if self.row >= 1801 {
             return false;
         }
@@ -79,12 +79,13 @@ impl Place {
             self.field += 1;
         } else {
             (self.row, self.field) = (self.row + 1, 0);
+            (self.first, self.second) = (0, 0);
         }
         true
     }
 
     /// Writes the row's three numbers where the byte ends it.
-    fn store(&self, byte: u8, list: &mut [u32]) {
+    pub fn store(&self, byte: u8, list: &mut [u32]) {
         if self.row < 1801 && byte == b'\n' && self.field == 3 && self.seen {
             let at = 3 * self.row as usize;
             list[at] = self.first;

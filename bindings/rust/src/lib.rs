@@ -4,7 +4,8 @@
 //! A safe wrapper of `libcapi.a`, in which every call is proved to give a defined answer or a
 //! numbered [`Refusal`] for every input. Nothing has to be checked before a call: a list of any
 //! length and any number may be passed. A list is lent as a slice, and what a call leaves in it is
-//! said with the call. There is no state; calls may be made from any number of threads.
+//! said with the call. There is no state, but for the [`SheetReading`] of a sheet that arrives in
+//! pieces, which is the caller's own; calls may be made from any number of threads.
 //!
 //! The archive is looked for in the folder GASKEYS_LIB, else in the project's target/staticlib,
 //! where `rt staticlib capi` puts it. One of another version than [`raw::VERSION`] does not link.
@@ -12,6 +13,7 @@
 mod air;
 mod gas;
 mod marking;
+mod pieces;
 pub mod raw;
 mod refusal;
 mod sheet;
@@ -23,6 +25,7 @@ pub use gas::{
     Products, LOOKS,
 };
 pub use marking::{mark, station, Station, Typed};
+pub use pieces::{Progress, SheetReading};
 pub use refusal::{Reason, Refusal};
 pub use sheet::{
     built_in_sheet, fill_built_in_sheet, judge_sheet, read_sheet, write_sheet, SHEET_PLACES,

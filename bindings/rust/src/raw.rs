@@ -10,6 +10,27 @@ pub struct SheetTold {
 }
 
 #[repr(C)]
+#[derive(Clone, Copy, Debug, PartialEq, Eq)]
+pub struct SheetReading {
+    pub stage: u32,
+    pub row: u32,
+    pub field: u32,
+    pub seen: u32,
+    pub value: u32,
+    pub first: u32,
+    pub second: u32,
+}
+
+#[repr(C)]
+pub struct PieceTold {
+    pub refusal: u32,
+    pub row: u32,
+    pub placed: u32,
+    pub more: u32,
+    pub reading: SheetReading,
+}
+
+#[repr(C)]
 pub struct WrittenTold {
     pub refusal: u32,
     pub row: u32,
@@ -112,6 +133,22 @@ extern "C" {
         list: *mut u32,
         list_length: usize,
     ) -> SheetTold;
+
+    pub fn gaskeys_open_reading() -> SheetReading;
+
+    pub fn gaskeys_read_piece(
+        reading: SheetReading,
+        piece: *const u8,
+        piece_length: usize,
+        list: *mut u32,
+        list_length: usize,
+    ) -> PieceTold;
+
+    pub fn gaskeys_close_reading(
+        reading: SheetReading,
+        list: *const u32,
+        list_length: usize,
+    ) -> PieceTold;
 
     pub fn gaskeys_judge_sheet(list: *const u32, list_length: usize) -> SheetTold;
 

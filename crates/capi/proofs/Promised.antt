@@ -1,5 +1,6 @@
 -- The entry's promise and a struct that flattens its answer make the promise of the call. Assumes nothing.
-use mathlib.Core.Path.{_≡_, refl, ap, _∙_}
+use mathlib.Core.Path.{_≡_, refl, ap, ap₂, _∙_}
+use mathlib.Core.Bool.{cond}
 use mathlib.Core.List.{List}
 use Prim.Native.Nat.{ℕ}
 use lib.IntN.{ℤ}
@@ -28,7 +29,15 @@ use Rattle.telling.specs.declared.TemperatureTold.{TemperatureTold}
 use Rattle.telling.specs.declared.PsiTold.{PsiTold}
 use Rattle.telling.specs.declared.WalkTold.{WalkTold}
 use Rattle.telling.specs.Flat.{flatSheet, flatWritten, flatTemperature, flatPsi, flatWalk}
-use Rattle.capi.specs.Lent.{listTold, SheetIs, BuiltInIs, WrittenIs, TemperatureIs, PsiIs, WalkIs}
+use Rattle.sheet.specs.declared.pieces.SheetReading.{SheetReading}
+use Rattle.sheet.specs.declared.pieces.Taken.{Taken}
+use Rattle.sheet.specs.declared.pieces.Closed.{Closed}
+use Rattle.sheet.specs.Sheet.{notLong}
+use Rattle.sheet.specs.Pieces.{afterPiece, pieceTold, paperPiece, PieceRead, ReadingClosed}
+use Rattle.telling.specs.declared.pieces.ReadingState.{ReadingState}
+use Rattle.telling.specs.declared.pieces.PieceTold.{PieceTold}
+use Rattle.telling.specs.Pieces.{readingIn, flatPiece, flatClosed}
+use Rattle.capi.specs.Lent.{listTold, SheetIs, BuiltInIs, WrittenIs, PieceIs, closedTold, TemperatureIs, PsiIs, WalkIs}
 
 -- the list by the answer is the list by what it tells
 list-as-told : (a : SheetAnswer) (numbers before : List ℕ) → listAfter a numbers before ≡ listTold (paperSheet a) numbers before
@@ -52,6 +61,19 @@ built-in-told l n e = record { told = rw (eq-eqb (length l) sheetNumbers n) refl
 
 pub written-told : {s before later : List ℕ} {a : WriteAnswer} {r : WrittenTold} → SheetWritten s before a later → r ≡ flatWritten (paperWrite a) → WrittenIs s before r later
 written-told p q = record { told = q ∙ ap flatWritten (p .told); buffer = p .buffer }
+
+-- a piece, and the close, of the reading that was handed in
+pub piece-told : {state : ReadingState} {piece before later : List ℕ} {s : SheetReading} {a : Taken} {r : PieceTold} → s ≡ readingIn state → PieceRead s piece before a later
+    → r ≡ flatPiece (paperPiece (a .answer)) (a .reading) → PieceIs state piece before r later
+piece-told {piece = piece} {before = before} e p q =
+    record {
+      told = q ∙ (ap₂ flatPiece (p .told) (p .reading) ∙ ap (λ (x : SheetReading). flatPiece (pieceTold x piece before) (cond (notLong before) x (afterPiece x piece before .reading))) e);
+      list = p .list ∙ ap (λ (x : SheetReading). cond (notLong before) before (afterPiece x piece before .list)) e;
+    }
+
+pub closed-told-flat : (state : ReadingState) {l : List ℕ} {s : SheetReading} {a : Closed} {r : PieceTold} → s ≡ readingIn state → ReadingClosed s l a
+    → r ≡ flatClosed (paperSheet (a .answer)) (a .reading) → r ≡ closedTold (readingIn state) l
+closed-told-flat state {l = l} e p q = q ∙ (ap₂ flatClosed (p .told) (p .reading) ∙ ap (λ (x : SheetReading). closedTold x l) e)
 
 pub temperature-told : {w : Weights} {ch : Charge} {target : ℤ} {s before after : List ℕ} {a : TemperatureAnswer} {r : TemperatureTold}
     → Temperature w ch target s before a after → r ≡ flatTemperature (paperTemperature a) → TemperatureIs w ch target s before r after

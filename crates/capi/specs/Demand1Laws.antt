@@ -41,8 +41,13 @@ use Rattle.telling.specs.declared.PsiTold.{PsiTold}
 use Rattle.telling.specs.declared.WalkTold.{WalkTold}
 use Rattle.telling.specs.declared.StationTold.{StationTold}
 use Rattle.telling.specs.declared.MarkTold.{MarkTold}
-use Rattle.telling.specs.Flat.{number, row, placed, flatSheet, flatReading, flatBurn, flatHeat, flatStation, flatMark, flatBegun, flatUnbegun, flatWalk, typedOf}
-use Rattle.capi.specs.Lent.{SheetIs, BuiltInIs, WrittenIs, TemperatureIs, PsiIs, WalkIs}
+use Rattle.telling.specs.Flat.{number, row, placed, flatSheet, flatReading, flatBurn, flatHeat, flatStation, flatMark, flatUnbegun, flatWalk, typedOf}
+use Rattle.sheet.specs.declared.pieces.SheetReading.{SheetReading}
+use Rattle.sheet.specs.Pieces.{afterPiece, afterClose, pieceLines}
+use Rattle.telling.specs.declared.pieces.ReadingState.{ReadingState}
+use Rattle.telling.specs.declared.pieces.PieceTold.{PieceTold}
+use Rattle.telling.specs.Pieces.{readingIn}
+use Rattle.capi.specs.Lent.{SheetIs, BuiltInIs, WrittenIs, PieceIs, closedTold, TemperatureIs, PsiIs, WalkIs}
 use Rattle.capi.specs.Demand1.{lineRow, linePlaced, numbered, FlatDemand1, WalkDemand1}
 
 -- ---- once over any order
@@ -87,6 +92,13 @@ pub «demand-1-gaskeys_built_in_sheet» : {before later : List ℕ} {r : SheetTo
 
 pub demand-1-gaskeys_write_sheet : {s before later : List ℕ} {r : WrittenTold} → WrittenIs s before r later → FlatDemand1 (writeLines s before) (r .refusal) (r .row) (r .placed)
 demand-1-gaskeys_write_sheet h = rw (h .told) (flat-demand-1 _ _ refl)
+
+pub demand-1-gaskeys_read_piece : {state : ReadingState} {piece before later : List ℕ} {r : PieceTold} → PieceIs state piece before r later
+    → FlatDemand1 (pieceLines before (afterPiece (readingIn state) piece before .reading)) (r .refusal) (r .row) (r .placed)
+demand-1-gaskeys_read_piece h = rw (h .told) (flat-demand-1 _ _ refl)
+
+pub demand-1-gaskeys_close_reading : (s : SheetReading) (l : List ℕ) (r : PieceTold) → r ≡ closedTold s l → FlatDemand1 (pieceLines l (afterClose s)) (r .refusal) (r .row) (r .placed)
+demand-1-gaskeys_close_reading s l r e = rw e (flat-demand-1 _ tt refl)
 
 -- ---- air
 pub demand-1-gaskeys_air_heat : (mk : ℤ) (r : ReadingTold) → r ≡ flatReading (airHeatTold mk) → FlatDemand1 (6 when outside (pos coldest) (pos hottest) mk ∷ []) (r .refusal) (r .row) (r .placed)

@@ -1,4 +1,5 @@
 -- The calls that write into lent lists, whole: the struct that comes back and every lent place. Each is the entry's own promise with its answer flattened. Definitions only.
+use mathlib.Core.Bool.{cond}
 use mathlib.Core.List.{List, [], _∷_}
 use mathlib.Core.Path.{_≡_}
 use Prim.Native.Nat.{ℕ}
@@ -11,6 +12,8 @@ use Rattle.sheet.specs.Sheet.{notLong}
 use Rattle.sheet_text.specs.Text.{sheetText}
 use Rattle.sheet.specs.Answers.{Form, readTold, numbersOf, sheetLines}
 use Rattle.sheet.specs.Writing.{writeTold, bufferAfter}
+use Rattle.sheet.specs.declared.pieces.SheetReading.{SheetReading}
+use Rattle.sheet.specs.Pieces.{afterPiece, afterClose, pieceTold, closeTold}
 use Rattle.built_in.specs.BuiltIn.{builtIn}
 use Rattle.burning.specs.declared.Charge.{Charge}
 use Rattle.burning.specs.Burning.{Weights, document01, gasOf}
@@ -20,6 +23,9 @@ use Rattle.walk.specs.Lists.{Lists}
 use Rattle.walk.specs.Walk.{Trace, walkedInto, course, filled}
 use Rattle.telling.specs.declared.SheetTold.{SheetTold}
 use Rattle.telling.specs.declared.WrittenTold.{WrittenTold}
+use Rattle.telling.specs.declared.pieces.ReadingState.{ReadingState}
+use Rattle.telling.specs.declared.pieces.PieceTold.{PieceTold}
+use Rattle.telling.specs.Pieces.{readingIn, flatPiece, flatClosed}
 use Rattle.telling.specs.declared.TemperatureTold.{TemperatureTold}
 use Rattle.telling.specs.declared.PsiTold.{PsiTold}
 use Rattle.telling.specs.declared.WalkTold.{WalkTold}
@@ -46,6 +52,15 @@ pub record BuiltInIs (before : List ℕ) (r : SheetTold) (later : List ℕ) : Ty
 pub record WrittenIs (s before : List ℕ) (r : WrittenTold) (later : List ℕ) : Type 0 where
   pub told : r ≡ flatWritten (writeTold s before)
   pub buffer : later ≡ bufferAfter (writeTold s before) (sheetText s) before
+
+-- a piece of a sheet: the reading that is handed in by its numbers, and what is told of it
+pub record PieceIs (state : ReadingState) (piece before : List ℕ) (r : PieceTold) (later : List ℕ) : Type 0 where
+  pub told : r ≡ flatPiece (pieceTold (readingIn state) piece before) (cond (notLong before) (readingIn state) (afterPiece (readingIn state) piece before .reading))
+  pub list : later ≡ cond (notLong before) before (afterPiece (readingIn state) piece before .list)
+
+-- its close
+abbrev pub closedTold : SheetReading → List ℕ → PieceTold
+closedTold s l = flatClosed (closeTold s l) (cond (notLong l) s (afterClose s))
 
 pub record TemperatureIs (w : Weights) (ch : Charge) (target : ℤ) (s before : List ℕ) (r : TemperatureTold) (after : List ℕ) : Type 0 where
   pub told : r ≡ flatTemperature (temperatureTold w ch target s (length before))

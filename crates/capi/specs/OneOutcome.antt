@@ -27,7 +27,12 @@ use Rattle.telling.specs.declared.WalkTold.{WalkTold}
 use Rattle.telling.specs.declared.StationTold.{StationTold}
 use Rattle.telling.specs.declared.MarkTold.{MarkTold}
 use Rattle.telling.specs.Flat.{flatSheet, flatReading, flatBurn, flatHeat, flatStation, flatMark, typedOf}
-use Rattle.capi.specs.Lent.{listTold, SheetIs, BuiltInIs, WrittenIs, TemperatureIs, PsiIs, WalkIs}
+use Rattle.sheet.specs.declared.pieces.SheetReading.{SheetReading}
+use Rattle.sheet.specs.Pieces.{opened}
+use Rattle.telling.specs.declared.pieces.ReadingState.{ReadingState}
+use Rattle.telling.specs.declared.pieces.PieceTold.{PieceTold}
+use Rattle.telling.specs.Pieces.{stateOf}
+use Rattle.capi.specs.Lent.{listTold, SheetIs, BuiltInIs, WrittenIs, PieceIs, closedTold, TemperatureIs, PsiIs, WalkIs}
 
 pub «one-gaskeys_version_2» : (r q : ℕ) → r ≡ 2 → q ≡ 2 → r ≡ q
 «one-gaskeys_version_2» r q p o = p ∙ sym o
@@ -46,6 +51,16 @@ pub «one-gaskeys_built_in_sheet» : {before later after : List ℕ} {r q : Shee
 
 pub one-gaskeys_write_sheet : {s before later after : List ℕ} {r q : WrittenTold} → WrittenIs s before r later → WrittenIs s before q after → (r ≡ q) × (later ≡ after)
 one-gaskeys_write_sheet p o = (p .told ∙ sym (o .told), p .buffer ∙ sym (o .buffer))
+
+pub «one-gaskeys_open_reading» : (r q : ReadingState) → r ≡ stateOf opened → q ≡ stateOf opened → r ≡ q
+«one-gaskeys_open_reading» r q p o = p ∙ sym o
+
+pub one-gaskeys_read_piece : {state : ReadingState} {piece before after later : List ℕ} {r q : PieceTold}
+    → PieceIs state piece before r after → PieceIs state piece before q later → (r ≡ q) × (after ≡ later)
+one-gaskeys_read_piece p o = (p .told ∙ sym (o .told), p .list ∙ sym (o .list))
+
+pub one-gaskeys_close_reading : (s : SheetReading) (l : List ℕ) (r q : PieceTold) → r ≡ closedTold s l → q ≡ closedTold s l → r ≡ q
+one-gaskeys_close_reading s l r q p o = p ∙ sym o
 
 pub one-gaskeys_air_heat : (mk : ℤ) (r q : ReadingTold) → r ≡ flatReading (airHeatTold mk) → q ≡ flatReading (airHeatTold mk) → r ≡ q
 one-gaskeys_air_heat mk r q p o = p ∙ sym o

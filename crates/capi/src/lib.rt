@@ -1,6 +1,7 @@
 // The calls for C and Rust: numbers and lent lists in, one struct by value out. Each takes every input and asks the entry of the same name; its promise is that entry's,
 // with the answer set out as a struct: 0 or the refusal's number, its row and whether it has one, the values, and 0 in every field that a case does not have
-// (specs/Flat.antt of telling). Lent lists hold on return what the entry promises (specs/Lent.antt). Two have no entry below: the built-in sheet put into a list, and the version.
+// (specs/Flat.antt of telling). Lent lists hold on return what the entry promises (specs/Lent.antt). The reading of a sheet in
+// pieces goes in and out as seven numbers. Two have no entry below: the built-in sheet put into a list, and the version.
 // include/gaskeys.h has the same calls for a reader of C.
 use air::Millikelvin;
 use gas::Heat;
@@ -16,6 +17,9 @@ use telling::StationTold;
 use telling::TemperatureTold;
 use telling::WalkTold;
 use telling::WrittenTold;
+use telling::pieces;
+use telling::pieces::PieceTold;
+use telling::pieces::ReadingState;
 ghost use mathlib.Core.Path.{_≡_};
 ghost use mathlib.Core.List.{[], _∷_};
 ghost use Rattle.air.specs.Answers.{airHeatTold, psiTold as airPsiTold, cpTold as airCpTold};
@@ -27,7 +31,9 @@ ghost use Rattle.walk.specs.Lists.{lists};
 ghost use Rattle.marking.specs.Marking.{marked};
 ghost use Rattle.marking.specs.Figures.{stationTold};
 ghost use Rattle.telling.specs.Flat.{flatSheet, flatBurn, flatHeat, flatReading, flatStation, flatMark, typedOf};
-ghost use Rattle.capi.specs.Lent.{SheetIs, BuiltInIs, WrittenIs, TemperatureIs, PsiIs, WalkCall};
+ghost use Rattle.sheet.specs.Pieces.{opened};
+ghost use Rattle.telling.specs.Pieces.{stateOf, readingIn};
+ghost use Rattle.capi.specs.Lent.{SheetIs, BuiltInIs, WrittenIs, PieceIs, closedTold, TemperatureIs, PsiIs, WalkCall};
 
 // up by one where a number, a list or a struct changes its meaning: 2 since a specific content is rounded to the nearest
 const VERSION: u32 = 2;
@@ -79,6 +85,34 @@ pub extern "C" fn gaskeys_write_sheet(list: &[u32], text: &mut [u8]) -> WrittenT
     ensures { λ r. ⌜ WrittenIs (now (list .entry)) (now (text .entry)) r (now (text .exit)) ⌝ }
 {
     telling::tell_written(sheet::write_sheet(list, text))
+}
+
+// A reading of a sheet that comes in pieces, of which no byte has come.
+#[no_mangle]
+pub extern "C" fn gaskeys_open_reading() -> ReadingState
+    ensures { λ r. ⌜ r ≡ stateOf opened ⌝ }
+{
+    pieces::state_of(sheet::pieces::open_reading())
+}
+
+// Reads the next piece of a sheet's text, which may be empty, into the list that is lent each time. Whatever is handed in as the reading has an answer.
+#[no_mangle]
+pub extern "C" fn gaskeys_read_piece(
+    reading: ReadingState,
+    piece: &[u8],
+    list: &mut [u32],
+) -> PieceTold
+    ensures { λ r. ⌜ PieceIs reading (now (piece .entry)) (now (list .entry)) r (now (list .exit)) ⌝ }
+{
+    pieces::tell_piece(sheet::pieces::read_piece(pieces::reading_in(reading), piece, list))
+}
+
+// Closes a reading: no byte follows.
+#[no_mangle]
+pub extern "C" fn gaskeys_close_reading(reading: ReadingState, list: &[u32]) -> PieceTold
+    ensures { λ r. ⌜ r ≡ closedTold (readingIn reading) (now (list .entry)) ⌝ }
+{
+    pieces::tell_closed(sheet::pieces::close_reading(pieces::reading_in(reading), list))
 }
 
 // The heat of air per pound at a temperature, in 0.00001 C.H.U./lb.

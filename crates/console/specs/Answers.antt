@@ -13,7 +13,8 @@ use Rattle.fields.specs.Fields.{fieldsOf, holdsReturn, oneOf, isCount, countAll
 use Rattle.air.specs.Inverse.{looks}
 use Rattle.air.specs.Answers.{airHeatTold, psiTold, cpTold, psiValue, psiInverseTold}
 use Rattle.sheet.specs.Sheet.{Accepted}
-use Rattle.sheet.specs.Answers.{paperSheet, judgeTold, SheetRead}
+use Rattle.sheet.specs.Answers.{paperSheet, judgeTold}
+use Rattle.sheet.specs.Pieces.{PiecesRead}
 use Rattle.sheet.specs.declared.SheetAnswer.{SheetAnswer}
 use Rattle.sheet.specs.declared.SheetAnswer.the-variants.{Good, Refused as SheetRefused}
 use Rattle.burning.specs.declared.Charge.{Charge}
@@ -100,10 +101,10 @@ abbrev pub judgedAfter : SheetAnswer → SheetAnswer → List ℕ → Type 0
 judgedAfter Good verdict s = paperSheet verdict ≡ judgeTold s
 judgedAfter (SheetRefused r) verdict s = verdict ≡ SheetRefused r
 
--- the verdict on a sheet text, read into a list
+-- the verdict on a sheet text, read in pieces into a list
 pub record Verdict (text before : List ℕ) (verdict : SheetAnswer) (s : List ℕ) : Type 0 where
   pub read : SheetAnswer
-  pub reading : SheetRead text before read s
+  pub reading : PiecesRead text before read s
   pub judged : judgedAfter read verdict s
 
 -- what a program that holds a verdict knows: it is the judge's on the list, or that on the text that the list was read from

@@ -1,3 +1,4 @@
 pub mod Limits
 pub mod Asking
 pub mod Names
+pub mod Sheets

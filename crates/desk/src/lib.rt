@@ -11,14 +11,17 @@ use forms::arguments::Form;
 use forms::arguments::Job;
 use forms::arguments::Named;
 use sheet::SheetAnswer;
-use stream::Text;
+use sheets::Input;
+ghost use mathlib.Core.Path.{_≡_};
+ghost use lib.ListN.{length};
+ghost use Rattle.sheet_text.specs.Limits.{sheetNumbers};
 ghost use Rattle.console.specs.Answers.{Columns, Judged};
 
 // Does what the arguments ask for.
 pub fn run() {
     match arguments::read() {
         Form::Over(job, named) => over_sheet(job, named),
-        Form::Sheet(i) => sheets::report(i),
+        Form::Sheet(named) => sheets::report(named),
         Form::Help => pages::print_usage(),
         Form::Version => pages::print_version(),
         Form::Misplaced => pages::say_misplaced(),
@@ -50,16 +53,16 @@ fn over_file(
     psis: &[u32; rows::ROWS],
     cps: &[u32; rows::ROWS],
 )
-    requires { ⌜ Columns (now air) (now psis) (now cps) ⌝ }
+    requires { ⌜ (length (now list) ≡ sheetNumbers) × Columns (now air) (now psis) (now cps) ⌝ }
 {
-    let mut bytes = io::large_buffer();
-    match sheets::read(i, &mut bytes) {
-        Text::Bytes(n) => {
-            let verdict = forms::sheets::judge(n, &bytes, list);
-            pages::say_return(verdict, &bytes[..n]);
+    match sheets::read_file(i, list) {
+        Input::Sheet(intake) => {
+            let reading = intake.reading;
+            let verdict = forms::sheets::judge(reading, list);
+            pages::say_return(verdict, intake.returned);
             serve(job, verdict, list, air, psis, cps);
         }
-        Text::Unread => (),
+        Input::Unread => (),
     }
 }
 

@@ -36,10 +36,10 @@ pub(crate) fn say_misplaced() {
     stream::say(&out, end);
 }
 
-// Says on standard error that the row for which a text is refused has a carriage return, where it has one.
-pub(crate) fn say_return(verdict: SheetAnswer, text: &[u8]) {
+// Says on standard error that a carriage return stands in the row for which a sheet is refused, where it decided so.
+pub(crate) fn say_return(verdict: SheetAnswer, returned: bool) {
     let mut out = io::buffer();
-    let end = pages::put_return_note(verdict, text, &mut out);
+    let end = pages::put_return_note(verdict, returned, &mut out);
     stream::say(&out, end);
 }
 

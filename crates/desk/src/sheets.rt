@@ -1,45 +1,107 @@
-// Sheet files: read, judged once, reported; and a sheet's text printed. A good sheet has at most 46,026 bytes, so a longer text has its first bad byte among the first
-// 65,536, and no more are read.
+// Sheets: read from an input piece by piece as it comes, judged once, reported; and a sheet's text printed. An input is read up to the byte that decides that its text is refused, or
+// to its end, however long it is.
 use crate::arguments;
 use crate::pages;
+use forms::arguments::Named;
+use forms::sheets;
+use forms::sheets::Intake;
+use libc::STDIN_FILENO;
 use sheet::SheetAnswer;
+use sheet::pieces;
+use stream::Got;
 use stream::Output;
-use stream::Text;
 ghost use mathlib.Core.Path.{_≡_};
 ghost use lib.ListN.{length};
-ghost use Rattle.sheet_text.specs.Limits.{mostText};
+ghost use Rattle.sheet_text.specs.Limits.{mostText, sheetNumbers};
 ghost use Rattle.console.specs.Answers.{Judged};
-ghost use Rattle.stream.specs.Reading.{Filled};
+ghost use Rattle.desk.specs.Sheets.{Arrived};
 
-// Reads the file that an argument names into the buffer.
-pub(crate) fn read(i: usize, bytes: &mut [u8]) -> Text
-    ensures { λ r. ⌜ Filled r (now (bytes .exit)) ⌝ }
+// What an input brought: a sheet's reading, or that it could not be read.
+pub(crate) enum Input {
+    Sheet(Intake),
+    Unread,
+}
+
+// Reads the sheet of an input; its turns are counted down.
+fn read_from(fd: i32, name: &[u8], piece: &mut [u8], list: &mut [u32]) -> Input
+    requires { ⌜ length (now list) ≡ sheetNumbers ⌝ }
+    ensures { λ r. ⌜ Arrived (now (list .entry)) r (now (list .exit)) ⌝ }
+{
+    let mut reading = pieces::open_reading();
+    let mut returned = false;
+    let mut turns = u64::MAX;
+    while turns > 0 {
+        turns -= 1;
+        match stream::read_some(fd, name, piece) {
+            Got::Bytes(n) => {
+                let intake = sheets::take_piece(reading, &piece[..n], list);
+                reading = intake.reading;
+                returned = intake.returned;
+                if !sheets::goes_on(reading) {
+                    turns = 0;
+                }
+            }
+            Got::End => {
+                turns = 0;
+            }
+            Got::Failed => {
+                return Input::Unread;
+            }
+        }
+    }
+    Input::Sheet(Intake { reading, returned })
+}
+
+// Reads the sheet of an input, which a failure's line names.
+fn read_input(fd: i32, name: &[u8], list: &mut [u32]) -> Input
+    requires { ⌜ length (now list) ≡ sheetNumbers ⌝ }
+    ensures { λ r. ⌜ Arrived (now (list .entry)) r (now (list .exit)) ⌝ }
+{
+    let mut piece = io::large_buffer();
+    read_from(fd, name, &mut piece, list)
+}
+
+// Reads the sheet of the file that an argument names.
+pub(crate) fn read_file(i: usize, list: &mut [u32]) -> Input
+    requires { ⌜ length (now list) ≡ sheetNumbers ⌝ }
+    ensures { λ r. ⌜ Arrived (now (list .entry)) r (now (list .exit)) ⌝ }
 {
     let mut name = io::buffer();
     let n = arguments::show(i, &mut name);
     let fd = arguments::open(i, &name[..n]);
     if fd < 0 {
-        return Text::Unread;
+        return Input::Unread;
     }
-    let text = stream::fill(fd, &name[..n], bytes);
+    let input = read_input(fd, &name[..n], list);
     libc::close(fd);
-    text
+    input
 }
 
-// Says whether the sheet file that an argument names is accepted.
-pub(crate) fn report(i: usize) {
+// Reads the sheet of a file, or of standard input.
+fn read_named(named: Named, list: &mut [u32]) -> Input
+    requires { ⌜ length (now list) ≡ sheetNumbers ⌝ }
+    ensures { λ r. ⌜ Arrived (now (list .entry)) r (now (list .exit)) ⌝ }
+{
+    match named {
+        Named::Nothing => read_input(STDIN_FILENO, b"standard input", list),
+        Named::Argument(i) => read_file(i, list),
+    }
+}
+
+// Says whether the sheet of a file, or of standard input, is accepted.
+pub(crate) fn report(named: Named) {
     let mut list = [0u32; sheet::NUMBERS];
-    let mut bytes = io::large_buffer();
-    match read(i, &mut bytes) {
-        Text::Bytes(n) => {
+    match read_named(named, &mut list) {
+        Input::Sheet(intake) => {
             let mut out = [0u8; 64];
-            let told = forms::sheets::report(n, &bytes, &mut list, &mut out);
+            let reading = intake.reading;
+            let told = sheets::report(reading, &list, &mut out);
             let verdict = told.verdict;
             let end = told.end;
-            pages::say_return(verdict, &bytes[..n]);
+            pages::say_return(verdict, intake.returned);
             stream::flush(&out, Output::At(end));
         }
-        Text::Unread => (),
+        Input::Unread => (),
     }
 }
 
@@ -55,7 +117,7 @@ pub(crate) fn write(verdict: SheetAnswer, sheet: &[u32])
     requires { ⌜ Judged verdict (now sheet) ⌝ }
 {
     let mut out = sheet_places();
-    let end = forms::sheets::put_sheet(verdict, sheet, &mut out);
+    let end = sheets::put_sheet(verdict, sheet, &mut out);
     stream::flush(&out, Output::At(end));
     pages::say_verdict(verdict);
 }

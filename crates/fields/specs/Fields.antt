@@ -15,10 +15,14 @@ use Rattle.fields.specs.declared.Numbers.the-variants.{Count, Bad}
 use Rattle.fields.specs.declared.Two.{Two}
 use Rattle.fields.specs.declared.Two.the-variants.{Are as AreTwo, Not as NotTwo}
 
--- how many bytes stand before the first tab
+-- how many bytes stand before the first that is c: all, where none is
+abbrev pub spanTo : ℕ → List ℕ → ℕ
+spanTo c [] = 0
+spanTo c (b ∷ bs) = cond (eqb b c) 0 (suc (spanTo c bs))
+
+-- before the first tab
 abbrev pub spanOf : List ℕ → ℕ
-spanOf [] = 0
-spanOf (b ∷ bs) = cond (eqb b 9) 0 (suc (spanOf bs))
+spanOf l = spanTo 9 l
 
 -- a carriage return stands in the line
 abbrev pub holdsReturn : List ℕ → Bool

@@ -1,5 +1,5 @@
 -- The fields of a line one by one, and their numbers. Assumes nothing.
-use Prim.Native.Nat.{ℕ, zero, suc, _+_, _-_, _≤_, _<_}
+use Prim.Native.Nat.{ℕ, suc, _+_, _-_, _≤_, _<_}
 use mathlib.Core.Path.{_≡_, refl, sym, _∙_, ap}
 use mathlib.Core.Bool.{Bool, true, false, cond, true≢false}
 use mathlib.Core.List.{List, [], _∷_, _++_, append-nil}
@@ -13,29 +13,29 @@ use lib.IntN.{ℤ}
 use Rattle.text.specs.Wholes.{wholeOf}
 use Rattle.text.specs.declared.Whole.{Whole}
 use Rattle.text.specs.declared.Whole.the-variants.{Is, Not}
-use Rattle.fields.specs.Fields.{spanOf, onHead, fieldsOf, fieldsFrom, holdsReturn, valueOf, valuesOf, countNext, countAll, leadingNext, leadingOf, Stored, heldOf, isCount}
+use Rattle.fields.specs.Fields.{spanTo, spanOf, onHead, fieldsOf, fieldsFrom, holdsReturn, valueOf, valuesOf, countNext, countAll, leadingNext, leadingOf, Stored, heldOf, isCount}
 use Rattle.fields.specs.declared.Numbers.{Numbers}
 use Rattle.fields.specs.declared.Numbers.the-variants.{Count, Bad}
 
-pub span-most : (l : List ℕ) → spanOf l ≤ length l
-span-most [] = omega arith
-span-most (b ∷ l) = go (eqb b 9) (span-most l)
+pub span-most : (c : ℕ) (l : List ℕ) → spanTo c l ≤ length l
+span-most c [] = omega arith
+span-most c (b ∷ l) = go (eqb b c) (span-most c l)
   where
-    go : (t : Bool) → spanOf l ≤ length l → cond t 0 (suc (spanOf l)) ≤ suc (length l)
+    go : (t : Bool) → spanTo c l ≤ length l → cond t 0 (suc (spanTo c l)) ≤ suc (length l)
     go true h = omega arith
     go false h = omega arith
 
 pub span-from : (l : List ℕ) (i : ℕ) → i ≤ length l → i + spanOf (drop i l) ≤ length l
-span-from l i h = omega (arith, span-most (drop i l), length-drop i l)
+span-from l i h = omega (arith, span-most 9 (drop i l), length-drop i l)
 
-pub span-tab : (l : List ℕ) (i : ℕ) → i < length l → getD l i 0 ≡ 9 → spanOf (drop i l) ≡ 0
-span-tab l i h e = rw (drop-cons l i 0 h, eq-eqb (getD l i 0) 9 e) refl
+pub span-here : (c : ℕ) (l : List ℕ) (i : ℕ) → i < length l → getD l i 0 ≡ c → spanTo c (drop i l) ≡ 0
+span-here c l i h e = rw (drop-cons l i 0 h, eq-eqb (getD l i 0) c e) refl
 
-pub span-more : (l : List ℕ) (i : ℕ) → i < length l → (getD l i 0 ≡ 9 → ⊥) → spanOf (drop i l) ≡ suc (spanOf (drop (i + 1) l))
-span-more l i h e = rw (add-one i, drop-cons l i 0 h, ne-eqb (getD l i 0) 9 e) refl
+pub span-more : (c : ℕ) (l : List ℕ) (i : ℕ) → i < length l → (getD l i 0 ≡ c → ⊥) → spanTo c (drop i l) ≡ suc (spanTo c (drop (i + 1) l))
+span-more c l i h e = rw (add-one i, drop-cons l i 0 h, ne-eqb (getD l i 0) c e) refl
 
-pub span-end : (l : List ℕ) (i : ℕ) → length l ≤ i → spanOf (drop i l) ≡ 0
-span-end l i h = omega (arith, span-most (drop i l), length-drop i l)
+pub span-end : (c : ℕ) (l : List ℕ) (i : ℕ) → length l ≤ i → spanTo c (drop i l) ≡ 0
+span-end c l i h = omega (arith, span-most c (drop i l), length-drop i l)
 
 ltb-suc : (a b : ℕ) → ltb (suc a) (suc b) ≡ ltb a b
 ltb-suc a b = go (ltb a b) refl
@@ -122,19 +122,14 @@ leading-all (f ∷ fs) n k e = go (wholeOf f) e (λ q. leading-all fs (n + 1) k 
     go (Is z) e i = ap (λ (zs : List ℤ). z ∷ zs) (i e)
     go Not e i = absurd (let z : _≡_ {A = ℕ} 0 1 = cc in omega arith)
 
--- ---- a carriage return, from a place on
-pub return-here : (l : List ℕ) (i : ℕ) → i < length l → getD l i 0 ≡ 13 → holdsReturn (drop i l) ≡ true
-return-here l i h e = rw (drop-cons l i 0 h, eq-eqb (getD l i 0) 13 e) refl
-
-pub return-later : (l : List ℕ) (i : ℕ) → i < length l → (getD l i 0 ≡ 13 → ⊥) → holdsReturn (drop i l) ≡ holdsReturn (drop (i + 1) l)
-return-later l i h e = rw (add-one i, drop-cons l i 0 h, ne-eqb (getD l i 0) 13 e) refl
-
-pub return-none : (l : List ℕ) (i : ℕ) → length l ≤ i → holdsReturn (drop i l) ≡ false
-return-none l i h = none (drop i l) (omega (arith, length-drop i l))
+-- ---- a carriage return stands in a line exactly where the bytes before the first are not all
+pub return-span : (l : List ℕ) → holdsReturn l ≡ ltb (spanTo 13 l) (length l)
+return-span [] = refl
+return-span (b ∷ l) = go (eqb b 13) (return-span l)
   where
-    none : (x : List ℕ) → length x ≡ 0 → holdsReturn x ≡ false
-    none [] e = refl
-    none (a ∷ x) e = absurd (omega arith)
+    go : (t : Bool) → holdsReturn l ≡ ltb (spanTo 13 l) (length l) → cond t true (holdsReturn l) ≡ ltb (cond t 0 (suc (spanTo 13 l))) (suc (length l))
+    go true h = sym (lt-ltb 0 (suc (length l)) (omega arith))
+    go false h = h ∙ sym (ltb-suc (spanTo 13 l) (length l))
 
 -- all numbers are counted
 pub count-is : (fs : List (List ℕ)) (n k : ℕ) → countAll n fs ≡ Count k → k ≡ n + length (valuesOf fs)

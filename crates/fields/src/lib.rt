@@ -4,7 +4,7 @@ ghost use mathlib.Core.Path.{_≡_};
 ghost use Prim.Native.Nat.{_+_};
 ghost use lib.ListN.{length, set, drop};
 ghost use Rattle.fields.specs.Words.{positionOf};
-ghost use Rattle.fields.specs.Fields.{spanOf, fieldsOf, fieldsFrom, holdsReturn, countAll, Stored, heldOf, isCount, oneOf, twoOf};
+ghost use Rattle.fields.specs.Fields.{spanTo, spanOf, fieldsOf, fieldsFrom, holdsReturn, countAll, Stored, heldOf, isCount, oneOf, twoOf};
 use text::Whole;
 
 // How many numbers the fields are, or that one of them is none.
@@ -19,13 +19,13 @@ pub enum Two {
     Not,
 }
 
-// Where the field that starts at `from` ends: its tab, or the line's end.
-pub fn field_end(line: &[u8], from: usize) -> usize
-    ensures { λ r. ⌜ r ≡ from + spanOf (drop from (now (line .entry))) ⌝ }
+// Where a byte stands first in a line, from `from` on: there, or at the line's end.
+pub fn place_of(byte: u8, line: &[u8], from: usize) -> usize
+    ensures { λ r. ⌜ r ≡ from + spanTo byte (drop from (now (line .entry))) ⌝ }
 {
     let mut i = from;
     while i < line.len() {
-        if line[i] == 9 {
+        if line[i] == byte {
             return i;
         }
         i += 1;
@@ -33,18 +33,18 @@ pub fn field_end(line: &[u8], from: usize) -> usize
     i
 }
 
+// Where the field that starts at `from` ends: its tab, or the line's end.
+pub fn field_end(line: &[u8], from: usize) -> usize
+    ensures { λ r. ⌜ r ≡ from + spanOf (drop from (now (line .entry))) ⌝ }
+{
+    place_of(9, line, from)
+}
+
 // Whether the line holds a carriage return: no line ends in one.
 pub fn holds_return(line: &[u8]) -> bool
     ensures { λ r. ⌜ r ≡ holdsReturn (now (line .entry)) ⌝ }
 {
-    let mut i = 0;
-    while i < line.len() {
-        if line[i] == 13 {
-            return true;
-        }
-        i += 1;
-    }
-    false
+    place_of(13, line, 0) < line.len()
 }
 
 // Puts the number at n, where the list has that place.

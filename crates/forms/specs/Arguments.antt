@@ -41,7 +41,7 @@ overNone form (Argument i) = Wrong
 abbrev pub alone : Word → Named → Form
 alone Ask named = Over AskOf named
 alone Walk named = Over (WalkOf Nothing) named
-alone Sheet named = Wrong
+alone Sheet named = overNone (SheetOf Nothing) named
 alone Write named = Over WriteOf named
 alone Option named = Wrong
 alone Help named = overNone HelpOf named
@@ -52,7 +52,7 @@ alone Other named = Wrong
 abbrev pub withFile : Word → Named → Form
 withFile Ask named = Wrong
 withFile Walk named = Over (WalkOf (Argument 2)) named
-withFile Sheet named = overNone (SheetOf 2) named
+withFile Sheet named = overNone (SheetOf (Argument 2)) named
 withFile Write named = Wrong
 withFile Option named = Wrong
 withFile Help named = Wrong

@@ -19,7 +19,7 @@ mostCounted = 18446744073709551615
 -- ---- the most bytes of a text
 -- how to go on
 abbrev pub usageRoom : ℕ
-usageRoom = 294
+usageRoom = 318
 
 -- the built-in example: a printed walk, a line feed and how to go on
 abbrev pub exampleRoom : ℕ

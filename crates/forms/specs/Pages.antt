@@ -1,6 +1,6 @@
 -- What `keys` prints whole (docs/PROGRAM.md): the built-in example with how to go on; and its lines on standard error.
-use Prim.Native.Nat.{ℕ, zero, suc, _+_}
-use mathlib.Core.Bool.{Bool, true, false, cond}
+use Prim.Native.Nat.{ℕ, _+_}
+use mathlib.Core.Bool.{Bool, cond}
 use mathlib.Core.List.{List, [], _∷_, _++_}
 use lib.Dec.{eqb}
 use lib.IntN.{pos}
@@ -19,7 +19,7 @@ abbrev pub usageText : List ℕ
 usageText =
     bytesOf "keys walk [FILE]   prints the walk of a question, from FILE or standard input\n"
     ++ bytesOf "keys ask           answers requests, one a line, from standard input\n"
-    ++ bytesOf "keys sheet FILE    judges a sheet file\n"
+    ++ bytesOf "keys sheet [FILE]  judges a sheet, from FILE or standard input\n"
     ++ bytesOf "keys write         prints the text of the sheet\n"
     ++ bytesOf "..   --sheet FILE  with another sheet than the built-in one\n"
 
@@ -72,14 +72,8 @@ refusalNote Good told = walkNote told
 refusalNote (Refused r) told = sheetNote r
 
 -- ---- why the form of a sheet's text is refused: a line of it may end in a carriage return
--- a carriage return stands in row n of a text, rows being parted by line feeds
-abbrev pub returnIn : ℕ → List ℕ → Bool
-returnIn n [] = false
-returnIn zero (b ∷ bs) = cond (eqb b 10) false (cond (eqb b 13) true (returnIn zero bs))
-returnIn (suc n) (b ∷ bs) = cond (eqb b 10) (returnIn n bs) (returnIn (suc n) bs)
-
--- said of the row for which the form is refused, with 2, where it has one
-abbrev pub returnNote : SheetAnswer → List ℕ → List ℕ
-returnNote Good text = []
-returnNote (Refused (Plain number)) text = []
-returnNote (Refused (At number row)) text = cond (eqb number 2) (cond (returnIn row text) (rowReturned row) []) []
+-- said of the row for which it is refused, where the byte that decided so is one
+abbrev pub returnNote : SheetAnswer → Bool → List ℕ
+returnNote Good returned = []
+returnNote (Refused (Plain number)) returned = []
+returnNote (Refused (At number row)) returned = cond returned (rowReturned row) []

@@ -38,10 +38,10 @@ pub enum Job {
     Write,
 }
 
-// A job over the sheet that is named, a sheet file to judge, how to go on, the version, a `--sheet FILE` that does not stand at the end, or arguments that are no form.
+// A job over the sheet that is named, a sheet to judge from a file or from standard input, how to go on, the version, a `--sheet FILE` that does not stand at the end, or arguments that are no form.
 pub enum Form {
     Over(Job, Named),
-    Sheet(usize),
+    Sheet(Named),
     Help,
     Version,
     Misplaced,
@@ -180,7 +180,7 @@ fn alone(word: Word, named: Named) -> Form
     match word {
         Word::Ask => Form::Over(Job::Ask, named),
         Word::Walk => Form::Over(Job::Walk(Named::Nothing), named),
-        Word::Sheet => Form::Wrong,
+        Word::Sheet => over_none(Form::Sheet(Named::Nothing), named),
         Word::Write => Form::Over(Job::Write, named),
         Word::Option => Form::Wrong,
         Word::Help => over_none(Form::Help, named),
@@ -196,7 +196,7 @@ fn with_file(word: Word, named: Named) -> Form
     match word {
         Word::Ask => Form::Wrong,
         Word::Walk => Form::Over(Job::Walk(Named::Argument(2)), named),
-        Word::Sheet => over_none(Form::Sheet(2), named),
+        Word::Sheet => over_none(Form::Sheet(Named::Argument(2)), named),
         Word::Write => Form::Wrong,
         Word::Option => Form::Wrong,
         Word::Help => Form::Wrong,

@@ -14,10 +14,10 @@ ghost use Rattle.text.specs.Puts.{Puts, Stands};
 ghost use Rattle.walk.specs.Walk.{paperWalk};
 ghost use Rattle.console.specs.Answers.{Judged};
 ghost use Rattle.forms.specs.Limits.{usageRoom, exampleRoom, noteRoom};
-ghost use Rattle.forms.specs.Pages.{usageText, examplePage, versionText, misplacedText, rowReturned, lineReturned, expected, lineBad, sheetNote, verdictNote, walkNote, refusalNote, returnIn, returnNote};
+ghost use Rattle.forms.specs.Pages.{usageText, examplePage, versionText, misplacedText, rowReturned, lineReturned, expected, lineBad, sheetNote, verdictNote, walkNote, refusalNote, returnNote};
 
 // the example is no longer: a printed walk, a line feed and how to go on (specs/Limits.antt)
-pub const EXAMPLE_ROOM: usize = console::PAGE_ROOM + 1 + 294;
+pub const EXAMPLE_ROOM: usize = console::PAGE_ROOM + 1 + 318;
 
 // How to go on.
 fn put_usage(out: &mut [u8], at: usize) -> usize
@@ -26,7 +26,7 @@ fn put_usage(out: &mut [u8], at: usize) -> usize
     text::put_text(
         b"keys walk [FILE]   prints the walk of a question, from FILE or standard input\n\
           keys ask           answers requests, one a line, from standard input\n\
-          keys sheet FILE    judges a sheet file\n\
+          keys sheet [FILE]  judges a sheet, from FILE or standard input\n\
           keys write         prints the text of the sheet\n\
           ..   --sheet FILE  with another sheet than the built-in one\n",
         out,
@@ -106,44 +106,19 @@ fn put_note(word: &[u8], number: u64, said: &[u8], out: &mut [u8]) -> usize
     text::put_text(said, out, after)
 }
 
-// Whether a row of a text has a carriage return.
-fn returned_in(row: u32, text: &[u8]) -> bool
-    ensures { λ r. ⌜ r ≡ returnIn row (now (text .entry)) ⌝ }
-{
-    let mut left = row;
-    let mut i = 0;
-    while i < text.len() {
-        let b = text[i];
-        if b == 10 {
-            if left == 0 {
-                return false;
-            }
-            left -= 1;
-        } else if b == 13 {
-            if left == 0 {
-                return true;
-            }
-        }
-        i += 1;
-    }
-    false
-}
-
-// That the row for which the form of a sheet's text is refused has a carriage return, where it has one.
-pub fn put_return_note(verdict: SheetAnswer, text: &[u8], out: &mut [u8]) -> usize
+// That a carriage return stands in the row for which a sheet's text is refused, where it decided so.
+pub fn put_return_note(verdict: SheetAnswer, returned: bool, out: &mut [u8]) -> usize
     requires { ⌜ noteRoom ≤ length (now out) ⌝ }
-    ensures { λ r. ⌜ Stands (returnNote verdict (now (text .entry))) (now (out .entry)) 0 r (now (out .exit)) ⌝ }
+    ensures { λ r. ⌜ Stands (returnNote verdict returned) (now (out .entry)) 0 r (now (out .exit)) ⌝ }
 {
     let SheetAnswer::Refused(refusal) = verdict else {
         return 0;
     };
-    let Refusal::At(number, row) = refusal else {
+    let Refusal::At(_, row) = refusal else {
         return 0;
     };
-    if number == 2 {
-        if returned_in(row, text) {
-            return put_row_returned(row, out);
-        }
+    if returned {
+        return put_row_returned(row, out);
     }
     0
 }

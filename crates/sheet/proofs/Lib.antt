@@ -3,3 +3,4 @@ pub mod Reading
 pub mod StepRule
 pub mod Copied
 pub mod Written
+pub mod InPieces

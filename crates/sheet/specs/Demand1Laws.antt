@@ -9,6 +9,10 @@ use Rattle.sheet.specs.declared.SheetAnswer.{SheetAnswer}
 use Rattle.sheet.specs.declared.WriteAnswer.{WriteAnswer}
 use Rattle.sheet.specs.Sheet.{notLong}
 use Rattle.sheet.specs.Answers.{paperSheet, breaks, badRowOf, SheetRead, sheetLines, judgeTold}
+use Rattle.sheet.specs.declared.pieces.SheetReading.{SheetReading}
+use Rattle.sheet.specs.declared.pieces.Taken.{Taken}
+use Rattle.sheet.specs.declared.pieces.Closed.{Closed}
+use Rattle.sheet.specs.Pieces.{afterPiece, afterClose, pieceLines, progress, paperPiece, PieceRead, ReadingClosed}
 use Rattle.sheet.specs.Writing.{paperWrite, writeLines, SheetWritten}
 
 -- the text's own form: whether it breaks its form, and its first bad row
@@ -21,3 +25,10 @@ demand-1-judge_sheet s a e = demand-1 _ _ e
 
 pub demand-1-write_sheet : {s before later : List ℕ} {a : WriteAnswer} → SheetWritten s before a later → Demand1 (writeLines s before) (textLength s) (paperWrite a)
 demand-1-write_sheet h = demand-1 _ _ (h .told)
+
+pub demand-1-read_piece : {s : SheetReading} {piece before later : List ℕ} {r : Taken} → PieceRead s piece before r later
+    → Demand1 (pieceLines before (afterPiece s piece before .reading)) (progress (afterPiece s piece before .reading)) (paperPiece (r .answer))
+demand-1-read_piece h = demand-1 _ _ (h .told)
+
+pub demand-1-close_reading : {s : SheetReading} {l : List ℕ} {r : Closed} → ReadingClosed s l r → Demand1 (pieceLines l (afterClose s)) tt (paperSheet (r .answer))
+demand-1-close_reading h = demand-1 _ _ (h .told)

@@ -2,6 +2,7 @@
 pub mod Sheet
 pub mod Answers
 pub mod Writing
+pub mod Pieces
 pub mod SheetLaws
 pub mod FormLaws
 pub mod OneOutcome
@@ -10,3 +11,4 @@ pub mod AnswersLaws
 pub mod ExampleSheets
 pub mod ExampleSheetsLaws
 pub mod WritingLaws
+pub mod PiecesLaws

@@ -1,9 +1,12 @@
-// The gas sheet (document 01, "The gas sheet"): its text read into a list, a list judged before it is used, and the text of a list written (document 02, request 1).
+// The gas sheet (document 01, "The gas sheet"): its text read into a list, at once or in pieces (`pieces`; document 02, request 3), a list judged before it is used, and the
+// text of a list written (document 02, request 1).
 // Every call takes every input. What an answer tells, in the paper's numbers (`paper` of specs/Answers.antt and specs/Writing.antt), is the first refusal of its order whose
 // condition holds. The conditions are of the text itself (specs/Text.antt of sheet_text) and of the list by kelvin (specs/Sheet.antt); a refusal leaves the list, or the
-// buffer, as it was. What was written is read as the same list, and what was read is written as the same bytes where its list keeps the step rule (specs/WritingLaws.antt).
+// buffer, as it was, but for the rows before the bad one of a text in pieces. What was written is read as the same list, and what was read is written as the same bytes where
+// its list keeps the step rule (specs/WritingLaws.antt).
 pub mod inner;
 mod judging;
+pub mod pieces;
 
 use refusal::Refusal;
 use sheet_text::writing;

@@ -47,9 +47,10 @@ pub record Held (t : List ℕ) (p : Place) (l : List ℕ) : Type 0 where
   pub fields : p .field ≤ 3
   pub kelvin : p .field ≡ 0 → p .seen ≡ true → begins (firstKelvin + p .row) (p .value) ≡ true
 
+-- and where it refused the text, the rows before the bad one stand in the list
 abbrev pub HeldBy : List ℕ → State → List ℕ → Type 0
 HeldBy t (Going p) l = Held t p l
-HeldBy t (Bad r) l = Unit {0}
+HeldBy t (Bad r) l = (rest : List ℕ) × (t ≡ rowsOf r l ++ rest)
 
 -- ---- a digit keeps it
 takes-pos : (p : Place) (d : ℕ) → (p .field ≡ 0 → begins (firstKelvin + p .row) (p .value) ≡ true) → p .seen ≡ true → takesDigit p d ≡ true → 0 < p .value
@@ -200,12 +201,16 @@ held-end t r (suc (suc zero)) v s a b l x o h e =
 held-end t r (suc (suc (suc n))) v s a b l x o h e = held-feed t r n v s a b l x o h (simp (le-ltb (suc (suc (suc n))) 3 (omega arith), ne-eqb (suc (suc (suc n))) 0 (omega arith)) at e)
 
 -- ---- so every byte keeps it
+-- the bytes behind the rows, with one more
+rest-more : {t : List ℕ} (rows rest : List ℕ) (b : ℕ) → t ≡ rows ++ rest → t ++ (b ∷ []) ≡ rows ++ (rest ++ (b ∷ []))
+rest-more rows rest b e = ap (λ (x : List ℕ). x ++ (b ∷ [])) e ∙ append-assoc rows rest (b ∷ [])
+
 pub held-step : (t : List ℕ) (s : State) (l : List ℕ) (b : ℕ) → HeldBy t s l → HeldBy (t ++ (b ∷ [])) (step s b) (stored s b l)
-held-step t (Bad r) l b o = tt
+held-step t (Bad r) l b o = (o .0 ++ (b ∷ []), rest-more (rowsOf r l) (o .0) b (o .1))
 held-step t (Going p) l b o = go (view p b l)
   where
     go : {s : State} {m : List ℕ} → View p b l s m → HeldBy (t ++ (b ∷ [])) s m
-    go dies = tt
+    go dies = (sofar p ++ (b ∷ []), rest-more (rowsOf (p .row) l) (sofar p) b (o .text))
     go (digit d e hd h k) = rw e (held-digit t p l d o h hd k)
     go (ends h e) = held-end t (p .row) (p .field) (p .value) (p .seen) (p .first) (p .second) l b o h e
 

@@ -5,5 +5,6 @@ pub mod Machine
 pub mod MachineLaws
 pub mod WholeLaws
 pub mod HeldLaws
+pub mod RowsLaws
 pub mod FirstBadLaws
 pub mod TextLaws

@@ -138,3 +138,13 @@ view p b l = go (ltb (p .row) tableRows) (isDigit b) (takesDigit p (b - 48)) (en
         rw (stored-same p b l h (omega arith)) dies
     go true false z true ex ey ez ew = ends (ltb-true _ _ ex) ew
     go true false z false ex ey ez ew = rw (stored-dead p b l ew) dies
+
+-- a byte that is no digit, no tab and no line feed is refused wherever it stands
+pub other-dies : (p : Place) (b : ℕ) → isDigit b ≡ false → (b ≡ 9 → ⊥) → (b ≡ 10 → ⊥) → stepPlace p b ≡ Bad (p .row)
+unfolding stepPlace stepEnd endsField closer
+other-dies p b d n m = go (ltb (p .row) tableRows) (ltb (p .field) 3)
+  where
+    go : (x y : Bool) → cond x (cond (isDigit b) (stepDigit p (b - 48)) (cond (eqb b (cond y 9 10) && whole p) (Going (after p)) (Bad (p .row)))) (Bad (p .row)) ≡ Bad (p .row)
+    go false y = refl
+    go true true = rw (d, ne-eqb b 9 n) refl
+    go true false = rw (d, ne-eqb b 10 m) refl

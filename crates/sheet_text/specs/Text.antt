@@ -44,6 +44,13 @@ pub record Begins (text : List ℕ) : Type 0 where
   pub numbers : List ℕ
   pub sheet : IsSheet (text ++ rest) numbers
 
+-- a list into which the first rows of a text are read: it holds their numbers, and every later place is as it was
+pub record RowsIn (text before : List ℕ) (rows : ℕ) (later : List ℕ) : Type 0 where
+  pub rest : List ℕ
+  pub read : text ≡ rowsOf rows later ++ rest
+  pub others : (i : ℕ) → 3 * rows ≤ i → getD later i 0 ≡ getD before i 0
+  pub long : length later ≡ length before
+
 -- the row of the byte after a text: the number of line feeds before it
 abbrev pub feeds : List ℕ → ℕ
 feeds [] = 0

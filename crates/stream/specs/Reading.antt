@@ -1,11 +1,9 @@
--- An input that is read in pieces (docs/PROGRAM.md): nothing is read after its end, nor where nobody takes the answers any more; a last line needs no line feed. And a file that is
--- read whole.
-use Prim.Native.Nat.{ℕ, _≤_}
+-- An input that is read in pieces (docs/PROGRAM.md): nothing is read after its end, nor where nobody takes the answers any more; a last line needs no line feed.
+use Prim.Native.Nat.{ℕ}
 use mathlib.Core.Bool.{Bool, true, false, cond}
 use mathlib.Core.List.{List}
 use mathlib.Core.Path.{_≡_}
 use lib.Dec.{eqb}
-use lib.ListN.{length}
 use Rattle.stream.specs.declared.Got.{Got}
 use Rattle.stream.specs.declared.Got.the-variants.{End as GotEnd, Failed}
 use Rattle.stream.specs.declared.Held.{Held}
@@ -14,10 +12,8 @@ use Rattle.stream.specs.declared.Output.{Output}
 use Rattle.stream.specs.declared.Output.the-variants.{At, Closed}
 use Rattle.stream.specs.declared.Reader.{Reader}
 use Rattle.stream.specs.declared.Line.{Line}
-use Rattle.stream.specs.declared.Line.the-variants.{Of, End, Unread}
+use Rattle.stream.specs.declared.Line.the-variants.{Of, End}
 use Rattle.stream.specs.declared.Next.{Next}
-use Rattle.stream.specs.declared.Text.{Text}
-use Rattle.stream.specs.declared.Text.the-variants.{Bytes as TextBytes, Unread as TextUnread}
 use Rattle.stream.specs.Taking.{Inside}
 
 -- a piece of n bytes of which none is taken; an input of which nothing is read
@@ -44,8 +40,3 @@ Reads false Closed before r later = (r ≡ Failed) × (later ≡ before)
 abbrev pub lastLine : Held → Line
 lastLine (Bytes n) = cond (eqb n 0) End (Of (Bytes n))
 lastLine Over = Of Over
-
--- the bytes of a file stand in the buffer
-abbrev pub Filled : Text → List ℕ → Type 0
-Filled (TextBytes n) bytes = n ≤ length bytes
-Filled TextUnread bytes = Unit {0}

@@ -1,10 +1,10 @@
-// Lines from an input, whole files, and answers to standard output, for the programs. How a line is taken from the pieces that are read is promised by an equation
+// Pieces and lines from an input, and answers to standard output, for the programs. How a line is taken from the pieces that are read is promised by an equation
 // (specs/Taking.antt), and so is that a failed write closes the output for good (specs/Writing.antt). No contract can say what is read or written.
 ghost use mathlib.Core.Path.{_≡_};
 ghost use Prim.Native.Nat.{_≤_};
 ghost use lib.ListN.{length};
 ghost use Rattle.stream.specs.Taking.{pushed, Takes, Inside};
-ghost use Rattle.stream.specs.Reading.{pieceOf, nothingRead, Reads, lastLine, takenWith, overWith, Filled};
+ghost use Rattle.stream.specs.Reading.{pieceOf, nothingRead, Reads, lastLine, takenWith, overWith};
 ghost use Rattle.stream.specs.Writing.{outcomeOf, Within, afterWrite, Flushed, Roomed, Free, Leaves};
 use libc::EAGAIN;
 use libc::EINTR;
@@ -65,14 +65,14 @@ fn take_line(held: Held, piece: &[u8], from: usize, line: &mut [u8]) -> Taken
 }
 
 // What a read gave: so many bytes of the piece, the end of the input, or nothing, after a line on standard error.
-enum Got {
+pub enum Got {
     Bytes(usize),
     End,
     Failed,
 }
 
-// Reads a piece of an input, which a failure's line names.
-fn read_some(fd: i32, what: &[u8], piece: &mut [u8]) -> Got
+// Reads a piece of an input as it comes; a failure's line names the input.
+pub fn read_some(fd: i32, what: &[u8], piece: &mut [u8]) -> Got
     ensures { λ r. ⌜ Inside r (now (piece .exit)) ⌝ }
 {
     let got = libc::read(fd, piece);
@@ -330,36 +330,4 @@ pub fn next_line(
         }
     }
     over(Line::Unread, output)
-}
-
-// How many bytes of a file stand in the buffer, or that it could not be read.
-pub enum Text {
-    Bytes(usize),
-    Unread,
-}
-
-// Fills the buffer from a file, up to the file's end or its own. A failure's line shows the file's name.
-pub fn fill(fd: i32, what: &[u8], bytes: &mut [u8]) -> Text
-    ensures { λ r. ⌜ Filled r (now (bytes .exit)) ⌝ }
-{
-    let mut n = 0;
-    let mut turns = u64::MAX;
-    while turns > 0 {
-        turns -= 1;
-        if n >= bytes.len() {
-            return Text::Bytes(n);
-        }
-        match read_some(fd, what, &mut bytes[n..]) {
-            Got::Bytes(more) => {
-                n += more;
-            }
-            Got::End => {
-                return Text::Bytes(n);
-            }
-            Got::Failed => {
-                return Text::Unread;
-            }
-        }
-    }
-    Text::Bytes(n)
 }

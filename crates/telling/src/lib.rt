@@ -1,5 +1,8 @@
 // What the calls for C and Rust tell: each answer as one struct by value, set out by one definition of specs/Flat.antt: 0 or the refusal's number, its row and whether it
-// has one, the values, and 0 in every field that a case does not have. A typed answer comes in by the number of its kind. For `capi` above.
+// has one, the values, and 0 in every field that a case does not have. A typed answer comes in by the number of its kind, and a reading in pieces as seven numbers
+// (`pieces`). For `capi` above.
+pub mod pieces;
+
 use air::Millikelvin;
 use air::PsiAnswer;
 use air::Reading;
@@ -16,7 +19,7 @@ use sheet::SheetAnswer;
 use sheet::WriteAnswer;
 use walk::WalkAnswer;
 ghost use mathlib.Core.Path.{_≡_};
-ghost use Rattle.refusal.specs.Refusals.{refused};
+ghost use Rattle.refusal.specs.Refusals.{gives, refused};
 ghost use Rattle.air.specs.Answers.{paperReading, paperPsi};
 ghost use Rattle.sheet.specs.Answers.{paperSheet};
 ghost use Rattle.sheet.specs.Writing.{paperWrite};
@@ -152,8 +155,19 @@ fn placed_of(r: Refusal) -> u32
     }
 }
 
+// No refusal: the first three fields of every struct.
+pub(crate) fn tell_nothing() -> SheetTold
+    ensures { λ t. ⌜ t ≡ flatSheet (gives tt) ⌝ }
+{
+    SheetTold {
+        refusal: 0,
+        row: NO_ROW,
+        placed: 0,
+    }
+}
+
 // A refusal alone, as the calls for a sheet tell it: the first three fields of every other struct.
-fn tell_refusal(r: Refusal) -> SheetTold
+pub(crate) fn tell_refusal(r: Refusal) -> SheetTold
     ensures { λ t. ⌜ t ≡ flatSheet (refused r) ⌝ }
 {
     SheetTold {
@@ -168,11 +182,7 @@ pub fn tell_sheet(answer: SheetAnswer) -> SheetTold
     ensures { λ r. ⌜ r ≡ flatSheet (paperSheet answer) ⌝ }
 {
     match answer {
-        SheetAnswer::Good => SheetTold {
-            refusal: 0,
-            row: NO_ROW,
-            placed: 0,
-        },
+        SheetAnswer::Good => tell_nothing(),
         SheetAnswer::Refused(r) => tell_refusal(r),
     }
 }

@@ -6,6 +6,7 @@ pub mod halves;
 pub mod limits;
 pub mod marks;
 pub mod misfits;
+pub mod pieces;
 pub mod rows;
 pub mod runs;
 pub mod sheets;

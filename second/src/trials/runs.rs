@@ -1,12 +1,14 @@
 //! Runs of `keys` made from a seed, each with what it has to write: requests of every kind over sheets of every kind, printed walks,
-//! judged sheet files, and sheets written.
+//! judged sheet files, sheets written, and sheets that arrive in pieces.
 
 use crate::dice::Dice;
 use crate::gas::Gases;
-use crate::program::Run;
+use crate::program::{Pieces, Run};
 use crate::sheet;
-use crate::trials::sheets::{accepted, bases, damage, limit_texts, random, random_text, Base};
-use crate::trials::{gas, marks, misfits, rows, walks};
+use crate::trials::sheets::{
+    accepted, bases, damage, limit_texts, long_text, random, random_text, small_texts, Base,
+};
+use crate::trials::{gas, marks, misfits, pieces, rows, walks};
 
 /// The name of a file of a run.
 const SHEET: &str = "sheet.tsv";
@@ -25,6 +27,7 @@ pub fn runs(seed: u64) -> Vec<(String, Run)> {
         ("walk", printed_walks(dice)),
         ("sheet", judged_sheets(dice)),
         ("write", written_sheets(dice)),
+        ("arriving", arriving_sheets(dice)),
     ];
     let named = |(kind, runs): (&str, Vec<Run>)| {
         let numbered = runs.into_iter().enumerate();
@@ -102,11 +105,17 @@ fn printed_walks(dice: &mut Dice) -> Vec<Run> {
     runs
 }
 
-/// Sheet files at both sides of each limit, accepted ones and any.
+/// Texts at both sides of each limit, and of accepted sheets.
+fn known_texts() -> Vec<Vec<u8>> {
+    let accepted = accepted().into_iter().map(|list| sheet::text(&list).into_bytes());
+    limit_texts().into_iter().chain(accepted).collect()
+}
+
+/// Sheet files at both sides of each limit, accepted ones, one far too long, and any.
 fn judged_sheets(dice: &mut Dice) -> Vec<Run> {
     let bases = bases();
-    let mut texts = limit_texts();
-    texts.extend(accepted().iter().map(|list| sheet::text(list).into_bytes()));
+    let mut texts = known_texts();
+    texts.push(long_text());
     texts.extend((0..300).map(|_| any_text(dice, &bases)));
     let judged = |text| Run::new(&["sheet", SHEET], String::new()).with(SHEET, text);
     texts.into_iter().map(judged).collect()
@@ -116,12 +125,40 @@ fn judged_sheets(dice: &mut Dice) -> Vec<Run> {
 /// editors end them, and any.
 fn written_sheets(dice: &mut Dice) -> Vec<Run> {
     let bases = bases();
-    let mut texts = limit_texts();
-    texts.extend(accepted().iter().map(|list| sheet::text(list).into_bytes()));
+    let mut texts = known_texts();
     texts.extend((0..60).map(|_| sheet::text(&random(dice)).into_bytes()));
     texts.push(sheet::text(&random(dice)).replace('\n', "\r\n").into_bytes());
     texts.extend((0..66).map(|_| any_text(dice, &bases)));
     let over = |text| Run::new(&["write", "--sheet", SHEET], String::new()).with(SHEET, text);
     let built_in = Run::new(&["write"], String::new());
     [built_in].into_iter().chain(texts.into_iter().map(over)).collect()
+}
+
+/// Sheets on standard input. Those at both sides of each limit, accepted ones, one whose lines end as some editors end them, one far too
+/// long and any are whole or cut at random places; small ones, and the shortest that is good, come byte by byte.
+fn arriving_sheets(dice: &mut Dice) -> Vec<Run> {
+    let bases = bases();
+    let mut texts = known_texts();
+    texts.push(sheet::text(&random(dice)).replace('\n', "\r\n").into_bytes());
+    let whole = |text: &Vec<u8>| Run::new(&["sheet"], text.clone());
+    let mut runs: Vec<Run> = texts.iter().chain([&long_text()]).map(whole).collect();
+    let lengths = pieces::lengths(dice, long_text().len(), 30_000);
+    runs.push(whole(&long_text()).handed(Pieces { lengths, stays_open: false }));
+    texts.extend((0..150).map(|_| any_text(dice, &bases)));
+    for text in texts {
+        let most = dice.one_of(&[1_460, 8_192, 30_000]);
+        runs.push(arriving(dice, text, most));
+    }
+    let shortest = sheet::text(&[0; sheet::PLACES]).into_bytes();
+    runs.extend(small_texts().into_iter().chain([shortest]).map(|text| arriving(dice, text, 1)));
+    runs
+}
+
+/// A sheet that arrives in pieces of up to so many bytes. Where one of its bytes decides the answer the text may end there, and the input
+/// stay open.
+fn arriving(dice: &mut Dice, mut text: Vec<u8>, most: usize) -> Run {
+    let bad = sheet::first_bad_byte(&text).filter(|_| dice.below(2) == 0);
+    text.truncate(bad.map_or(text.len(), |at| at + 1));
+    let lengths = pieces::lengths(dice, text.len(), most);
+    Run::new(&["sheet"], text).handed(Pieces { lengths, stays_open: bad.is_some() })
 }

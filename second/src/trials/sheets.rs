@@ -117,7 +117,7 @@ pub fn damage(dice: &mut Dice, list: &mut [u32]) {
     list[place] = dice.one_of(&[&edges[..], &[near]].concat());
 }
 
-/// Texts at both sides of each limit of a sheet file: its numbers, its step rule, its 1,801 rows, and more than a program reads.
+/// Texts at both sides of each limit of a sheet file: its numbers, its step rule, its 1,801 rows, and far more bytes than a sheet has.
 pub fn limit_texts() -> Vec<Vec<u8>> {
     let lists = edited(&LIMITS);
     let mut texts: Vec<Vec<u8>> = lists.iter().map(|list| sheet::text(list).into_bytes()).collect();
@@ -155,8 +155,13 @@ pub fn each_list(dice: &mut Dice, look: &mut dyn FnMut(&[u32])) {
     (0..1000).for_each(|_| look(&random_list(dice, &bases)));
 }
 
+/// A good sheet with much behind it: several hundred KB.
+pub fn long_text() -> Vec<u8> {
+    bases()[0].text.repeat(9)
+}
+
 /// Texts of a few bytes, each as it stands and after a good row.
-fn small_texts() -> Vec<Vec<u8>> {
+pub fn small_texts() -> Vec<Vec<u8>> {
     let texts = [
         "",
         "2",

@@ -47,7 +47,7 @@ over-file-requires c κs =
     let at-cp-column = c .before .before .before .before .before .before .before .before in
     let at-psi-column = at-cp-column .before in
     let at-heat-column = at-psi-column .before in
-    record { heats-are = at-heat-column .heat-column .ensures; psis-are = at-psi-column .psi-column .ensures; cps-are = at-cp-column .cp-column .ensures }
+    (search needs, record { heats-are = at-heat-column .heat-column .ensures; psis-are = at-psi-column .psi-column .ensures; cps-are = at-cp-column .cp-column .ensures })
 
 returns : tie.Need-returns
 returns c = search needs

@@ -1,7 +1,7 @@
--- `report`: the verdict of the bytes, and its line, of which nothing is cut (`puts-whole`).
+-- `report`: the verdict after the close, and its line, of which nothing is cut (`puts-whole`).
+use borrow.Author.Needs.{needs}
 use native.Mathlib.Omega.{arith}
 use Rattle.text.specs.PutsLaws.{puts-whole}
-use borrow.Author.Needs.{needs}
 use Rattle.forms.proofs.sheets.report.Statement.{statement}
 use Rattle.forms.proofs.sheets.report.Tie as tie
 
@@ -14,12 +14,8 @@ put-verdict-requires c κs = search needs
 same-length : tie.Need-same-length
 same-length c = search needs
 
-same-length-2 : tie.Need-same-length-2
-same-length-2 c = search needs
-
 returns : tie.Need-returns
-returns c = record { judged = c .before .before .before .before .before .before .judge .ensures; line = puts-whole (omega arith) (c .before .before .put-verdict .ensures) }
+returns c = record { judged = c .before .before .before .before .judge .ensures; line = puts-whole (omega arith) (c .before .before .put-verdict .ensures) }
 
 pub report-spec : {M : Type 1} → statement M
-report-spec =
-    tie.close (tie.spec judge-requires put-verdict-requires same-length same-length-2 returns)
+report-spec = tie.close (tie.spec judge-requires put-verdict-requires same-length returns)

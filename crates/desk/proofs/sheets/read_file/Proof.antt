@@ -1,9 +1,9 @@
--- `read`: the shown name is a part of its buffer; a file that cannot be opened fills nothing, else `fill` says how much.
+-- `read_file`: the shown name is a part of its buffer; a file that cannot be opened brings nothing, else the input says what came.
 use native.Mathlib.Omega.{arith}
 use lib.ListN.{length-take}
 use borrow.Author.Needs.{needs}
-use Rattle.desk.proofs.sheets.read.Statement.{statement}
-use Rattle.desk.proofs.sheets.read.Tie as tie
+use Rattle.desk.proofs.sheets.read_file.Statement.{statement}
+use Rattle.desk.proofs.sheets.read_file.Tie as tie
 
 buffer-requires : tie.Need-buffer-requires
 buffer-requires c κs = search needs
@@ -29,11 +29,11 @@ returns c = search needs
 array-share-prefix-name-2 : tie.Need-array-share-prefix-name-2
 array-share-prefix-name-2 c = search needs
 
-slice-aggregate-fill : tie.Need-slice-aggregate-fill
-slice-aggregate-fill c = simp length-take (omega arith)
+slice-aggregate-read-input : tie.Need-slice-aggregate-read-input
+slice-aggregate-read-input c = simp length-take (omega arith)
 
-fill-requires : tie.Need-fill-requires
-fill-requires c κs = search needs
+read-input-requires : tie.Need-read-input-requires
+read-input-requires c κs = search needs
 
 close-requires : tie.Need-close-requires
 close-requires c κs = search needs
@@ -44,7 +44,20 @@ same-length c = search needs
 returns-2 : tie.Need-returns-2
 returns-2 c = search needs
 
-pub read-spec : {M : Type 1} → statement M
-read-spec =
-    tie.close (tie.spec buffer-requires slice-aggregate-show show-requires array-share-prefix-name slice-aggregate-open open-requires returns array-share-prefix-name-2
-    slice-aggregate-fill fill-requires close-requires same-length returns-2)
+pub read-file-spec : {M : Type 1} → statement M
+read-file-spec =
+    tie.close
+    (tie.spec
+    buffer-requires
+    slice-aggregate-show
+    show-requires
+    array-share-prefix-name
+    slice-aggregate-open
+    open-requires
+    returns
+    array-share-prefix-name-2
+    slice-aggregate-read-input
+    read-input-requires
+    close-requires
+    same-length
+    returns-2)

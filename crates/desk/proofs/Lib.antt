@@ -1,0 +1,2 @@
+-- What several proofs of this crate share.
+pub mod Arriving
