@@ -118,10 +118,10 @@ gaskeys_sheet_reading gaskeys_open_reading(void);
  * Refusals: 1, 2 (with the piece that has the first byte after which no good sheet can follow). Leaves: the rows whose line feed is in the piece written, also those before
  * a bad row, and all other places as they were; with refusal 1 all places, and the reading too, so that it goes on with the next call. Once the sheet is refused with 2
  * or accepted the reading is at its end: all of its fields but the stage and the bad row are 0, and this call and the next one change nothing and tell the same again.
- * A reading of any other numbers has a meaning too, and is told back in plain ones. A stage over 2 is 1, a `seen` over 1 is 1, a field over 3 is 3. At stage 0 it goes on from its place, whatever that is:
- * from row 1,801 on any byte is refused at that row. A digit follows in field 0 where the number with it begins the digits of 200 + row (0 begins none), in another where the
- * field has no digit yet or its number is not 0, and the number with it is at most 200,000. A tab, in field 3 a line feed, follows in field 0 where the number is 200 + row, in
- * another where it has a digit. A line feed writes first, second and value. */
+ * A reading of any other numbers has a meaning too, and is told back in plain ones. A stage over 2 is 1, a `seen` over 1 is 1, a field over 3 is 3. At stage 0 it goes on from
+ * its place, whatever that is: from row 1,801 on any byte is refused at that row. A digit follows in field 0 where the number with it begins the digits of 200 + row (0 begins
+ * none), in another where the field has no digit yet or its number is not 0, and the number with it is at most 200,000. A tab, in field 3 a line feed, follows in field 0
+ * where the number is 200 + row, in another where it has a digit. A line feed writes first, second and value. */
 gaskeys_piece_told gaskeys_read_piece(gaskeys_sheet_reading reading, const uint8_t *piece, size_t piece_length, uint32_t *list, size_t list_length);
 
 /* Says that the text has ended: a sheet whose 1,801 rows were read is accepted, and any other is refused at the row at hand. The list is the one that was lent for the

@@ -40,10 +40,6 @@ use Rattle.sheet.specs.FormLaws.{one-form}
 use Rattle.sheet.specs.Pieces.{readingOf, opened, Standing, standing, onByte, withByte, afterPiece, afterClose, isRefused, rowRefused, pieceLines, progress, paperPiece}
 use Rattle.sheet.specs.Pieces.{PieceRead, ReadingClosed, answerOf, refusedAt, acceptedClosed, closed, Calls, none, piece, astray, astrayClose, Came, rowsTold, PiecesRead}
 
--- ---- a list as long as a sheet
-long : (l : List ℕ) → length l ≡ sheetNumbers → notLong l ≡ false
-long l h = rw (eq-eqb (length l) sheetNumbers h) refl
-
 -- ---- the one machine: what `fillByte` makes of a text is where a reading comes to
 machine-run : (xs : List ℕ) (s : State) (l : List ℕ)
     → run withByte (standing (readingOf s) l) xs ≡ standing (readingOf (run fillByte (filled s l) xs .state)) (run fillByte (filled s l) xs .list)

@@ -74,7 +74,7 @@ run-keeps (b ∷ xs) s l =
     let r = run-keeps xs (step s b) (stored s b l) in
     record { on = omega (arith, k .on, r .on); others = λ i h. r .others i h ∙ k .others i (omega (arith, r .on)) }
 
-pub run-length : (xs : List ℕ) (s : State) (l : List ℕ) → length (run fillByte (filled s l) xs .list) ≡ length l
+run-length : (xs : List ℕ) (s : State) (l : List ℕ) → length (run fillByte (filled s l) xs .list) ≡ length l
 run-length [] s l = refl
 run-length (b ∷ xs) s l = run-length xs (step s b) (stored s b l) ∙ length-stored s b l
 
