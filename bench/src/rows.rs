@@ -7,6 +7,9 @@ use second::sheet;
 
 const INPUTS: usize = 1024;
 
+/// Of a call that takes nanoseconds: so many that the processor does not learn which way each goes.
+const SHORT_INPUTS: usize = 1 << 16;
+
 /// Each row's name and its inputs, on the built-in sheet.
 pub fn rows(list: &[u32]) -> Vec<(&'static str, Inputs)> {
     let mut dice = Dice::new(7);
@@ -23,8 +26,8 @@ pub fn rows(list: &[u32]) -> Vec<(&'static str, Inputs)> {
         ("sheet in pieces", Inputs::Pieces(sheet::text(list).into_bytes())),
         ("sheet written", Inputs::Written),
         ("psi inverse", Inputs::Psis(draw(|| dice.from_to(95_264_000, 133_150_999)))),
-        ("mark, short fractions", Inputs::Marks(draw(|| mark(dice, 3_600, 2.0)))),
-        ("mark, long fractions", Inputs::Marks(draw(|| mark(dice, 1 << 53, 4.5e12)))),
+        ("mark, short fractions", Inputs::Marks(marks(dice, 3_600, 2.0))),
+        ("mark, long fractions", Inputs::Marks(marks(dice, 1 << 53, 4.5e12))),
     ]
 }
 
@@ -65,6 +68,10 @@ pub fn walks(dice: &mut Dice, gases: &Gases, count: usize, steps: usize) -> Vec<
         (charge, start, numbers)
     };
     (0..count).map(|_| walk()).collect()
+}
+
+fn marks(dice: &mut Dice, most: i64, divisor: f64) -> Vec<(f64, i64)> {
+    (0..SHORT_INPUTS).map(|_| mark(dice, most, divisor)).collect()
 }
 
 /// A number of kelvins, and a key that it meets or misses within a window of 100.

@@ -5,6 +5,7 @@ use std::sync::OnceLock;
 
 use second::dice::Dice;
 use second::gas::{Charge, Gases};
+use second::marking::{mark, Typed};
 use second::program::{Run, Written};
 use second::sheet::{built_in, judge, read, PLACES};
 use second::stored::trial_ask;
@@ -114,7 +115,7 @@ fn a_seed_asks_many_of_each() {
         ("station", 5_000),
         ("temperature", 30_000),
         ("walk", 6_000),
-        ("mark", 140_000),
+        ("mark", 1_000_000),
     ];
     for (word, least) in least {
         let lines = of("ask").flat_map(|(run, _)| run.text().lines());
@@ -122,6 +123,49 @@ fn a_seed_asks_many_of_each() {
         assert!(asked >= least, "{word} {asked}");
     }
     assert!(of("walk").count() >= 300 && of("sheet").count() >= 300 && of("write").count() >= 150);
+}
+
+/// The kind, the number, the key and the window of a mark whose number is given by its bits.
+fn mark_of_bits(line: &str) -> Option<(&str, f64, i64, i64)> {
+    let fields: Vec<&str> = line.split('\t').collect();
+    let ["mark", kind, typed, key, window] = fields[..] else { return None };
+    let bits = u64::from_str_radix(typed.strip_prefix('x')?, 16).ok()?;
+    Some((kind, f64::from_bits(bits), key.parse().ok()?, window.parse().ok()?))
+}
+
+/// An answer that misses while the float beside it counts, by its kind and exponent field and whether it is the one nearer zero.
+type Edge<'a> = (&'a str, u64, bool);
+
+fn edges(line: &str) -> Vec<Edge<'_>> {
+    let Some((kind, x, key, window)) = mark_of_bits(line) else { return Vec::new() };
+    let counts = |bits: u64| {
+        let number = f64::from_bits(bits);
+        let typed = if kind == "kelvins" { Typed::Kelvins(number) } else { Typed::Content(number) };
+        mark(typed, key, window) == Ok(true)
+    };
+    let bits = x.to_bits();
+    if x == 0.0 || !x.is_finite() || counts(bits) {
+        return Vec::new();
+    }
+    let beside = [(bits + 1, true), (bits - 1, false)].into_iter().filter(|(b, _)| counts(*b));
+    beside.map(|(_, nearer)| (kind, bits >> 52 & 0x7ff, nearer)).collect()
+}
+
+/// Every power of two that a key's float can lie above, for either kind.
+#[test]
+fn a_seed_marks_at_the_edge_for_every_exponent_of_a_key() {
+    let mut met = BTreeMap::new();
+    for (run, _) in made().iter().filter(|(run, _)| run.words[0] == "ask") {
+        for edge in run.text().lines().flat_map(edges) {
+            *met.entry(edge).or_insert(0) += 1;
+        }
+    }
+    for (kind, exponents) in [("kelvins", 1013..=1052), ("content", 1006..=1046)] {
+        for (exponent, nearer) in exponents.flat_map(|e| [(e, true), (e, false)]) {
+            let times = met.get(&(kind, exponent, nearer)).copied().unwrap_or(0);
+            assert!(times >= 10, "{kind} {exponent} {nearer} {times}");
+        }
+    }
 }
 
 #[test]

@@ -22,11 +22,12 @@ pub fn mark(typed: Typed, key: i64, window: i64) -> Result<bool, u32> {
     if !(-FARTHEST..=FARTHEST).contains(&key) || !(0..=100_000).contains(&window) {
         return Err(12);
     }
-    match typed {
-        Typed::Kelvins(x) => mark_number(1_000, x, key, window),
-        Typed::Content(x) => mark_number(100_000, x, key, window),
-        Typed::Blank => Err(11),
-    }
+    let (scale, x) = match typed {
+        Typed::Kelvins(x) => (1_000, x),
+        Typed::Content(x) => (100_000, x),
+        Typed::Blank => return Err(11),
+    };
+    mark_number(scale, x, key, window)
 }
 
 fn mark_number(scale: u64, x: f64, key: i64, window: i64) -> Result<bool, u32> {
@@ -40,15 +41,17 @@ fn mark_number(scale: u64, x: f64, key: i64, window: i64) -> Result<bool, u32> {
     Ok(lies(scale, exponent, fraction, middle - window, middle + window))
 }
 
-/// Whether scale times the size lies from lo to hi, by its floor and its ceiling.
+/// Whether scale times the size lies from lo to hi, by its floor and its ceiling: twelve places are shifted off the two parts
+/// of the product, so that it fits 64 bits, and then the others. Both ends are always compared.
 fn lies(scale: u64, exponent: u64, fraction: u64, lo: i64, hi: i64) -> bool {
-    if exponent > 1062 {
-        return false;
-    }
     let digits = if exponent == 0 { fraction } else { fraction | 1 << 52 };
-    let places = if exponent < 1005 { 70 } else { 1075 - exponent };
-    let scaled = scale as u128 * digits as u128;
-    let floor = (scaled >> places) as i64;
-    let ceiling = floor + (scaled & ((1 << places) - 1) != 0) as i64;
-    lo <= floor && ceiling <= hi
+    let others = match exponent {
+        0..1005 => 58,
+        1005..1063 => 1063 - exponent,
+        _ => 0,
+    };
+    let (high, low) = (scale * (digits >> 12), scale * (digits & 0xfff));
+    let floor = (high + (low >> 12)) >> others;
+    let ceiling = (high + ((low + 0xfff) >> 12) + ((1 << others) - 1)) >> others;
+    (lo <= floor as i64) & (ceiling as i64 <= hi)
 }

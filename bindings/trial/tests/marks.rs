@@ -58,7 +58,7 @@ fn number(dice: &mut Dice, scale: f64, key: i64, window: i64) -> f64 {
 fn marks_are_alike() {
     let mut dice = dice(932);
     let (mut counted, mut missed) = (0, 0);
-    for _ in 0..300_000 {
+    for _ in 0..1_000_000 {
         let most = dice.one_of(&[10, 2_000_000, 1_000_000_000_000]);
         let key = about(&mut dice, -most, most);
         let window = about(&mut dice, 0, 100_000);
@@ -74,5 +74,5 @@ fn marks_are_alike() {
         counted += (answer == Ok(true)) as u32;
         missed += (answer == Ok(false)) as u32;
     }
-    assert!(counted > 10_000 && missed > 10_000, "{counted} {missed}");
+    assert!(counted > 30_000 && missed > 30_000, "{counted} {missed}");
 }

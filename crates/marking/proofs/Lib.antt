@@ -1,7 +1,8 @@
 -- What several proofs of this crate share.
 pub mod Spans
 pub mod Patterns
-pub mod Digits
+pub mod Shifts
 pub mod Places
 pub mod Ends
+pub mod Scales
 pub mod WorkedMarks

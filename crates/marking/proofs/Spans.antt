@@ -2,8 +2,8 @@
 -- and it is what `near` asks of an answer's exact value. Over any scale. Assumes nothing.
 use mathlib.Core.Path.{_≡_, refl, sym, ap, _∙_}
 use mathlib.Core.Bool.{Bool, true, false, _&&_}
-use Prim.Native.Nat.{ℕ, zero, suc, _+_, _*_, _/_, _%_, _≤_, _<_}
-use native.Mathlib.Nat.{le-trans, le-of-eq, mul-right-comm, mul-assoc, mul-pos, mul-le-mul-right, le-of-mul-le-mul-right, le-div-iff-mul-le, lt-of-mul-lt-mul-right, zero-lt-suc, div-add-mod', mod-lt}
+use Prim.Native.Nat.{ℕ, zero, suc, _+_, _-_, _*_, _/_, _≤_, _<_}
+use native.Mathlib.Nat.{le-trans, le-of-eq, mul-right-comm, mul-assoc, mul-pos, mul-le-mul-right, le-of-mul-le-mul-right, le-div-iff-mul-le, div-lt-iff-lt-mul, zero-lt-suc}
 use native.Mathlib.Omega.{arith}
 use lib.Dec.{T, leb, leb→le, le→leb}
 use lib.IntN.{ℤ, pos, negsuc, negℤ, natAbs, _+ℤ_, _-ℤ_, _*ℤ_}
@@ -13,8 +13,7 @@ use lib.Ieee.Exact.{HasValue}
 use lib.Ieee.Fits.{down-pos}
 use Rattle.signed.specs.Zed.{inZ, is-pos, is-self, is-neg, is-add, is-minus, is-mul, same-by, yes-leZ, apart, abs-parts, zed}
 use Rattle.marking.specs.Marking.{signed, near}
-use Rattle.marking.specs.Exact.{turned, spans}
-use Rattle.marking.specs.Division.{some}
+use Rattle.marking.specs.Exact.{turned, spans, roundedUp}
 
 pub same-test : (a b : Bool) → (T a → T b) → (T b → T a) → a ≡ b
 same-test true true p q = refl
@@ -30,7 +29,7 @@ low-below : (k n : ℕ) → leZ (negℤ (pos k)) (pos n) ≡ true
 low-below zero n = yes-leZ (pos 0) (pos n) (omega arith)
 low-below (suc k) n = refl
 
-pub high-below : (k n : ℕ) → 0 < k → leZ (pos n) (negℤ (pos k)) ≡ false
+high-below : (k n : ℕ) → 0 < k → leZ (pos n) (negℤ (pos k)) ≡ false
 high-below zero n h = absurd (omega arith)
 high-below (suc k) n h = refl
 
@@ -51,35 +50,20 @@ module _ (n d m c : ℕ) (D : 0 < d) (C : 0 < c) (e : n * c ≡ m * d) where
   unfolding inZ
   spans-same lo hi = rw (low-same lo, high-same hi)
 
--- ---- n / d rounded up: q is the quotient, r the rest
-module _ (n d q r : ℕ) (is : q * d + r ≡ n) (R : r < d) where
-  ceiling-to : (a : ℕ) → n ≤ a * d → q + some r ≤ a
-  ceiling-to a h = go r is
-    where
-      D : 0 < d
-      D = omega arith
-
-      go : (r : ℕ) → q * d + r ≡ n → q + some r ≤ a
-      go zero e = let k : q ≤ a = le-of-mul-le-mul-right (omega arith) D in omega arith
-      go (suc r) e = let k : q < a = lt-of-mul-lt-mul-right d (omega arith) in omega arith
-
-  ceiling-of : (a : ℕ) → q + some r ≤ a → n ≤ a * d
-  ceiling-of a h = go r is R h
-    where
-      go : (r : ℕ) → q * d + r ≡ n → r < d → q + some r ≤ a → n ≤ a * d
-      go zero e l g = let k : q * d ≤ a * d = mul-le-mul-right d (omega arith) in omega arith
-      go (suc r) e l g = let k : suc q * d ≤ a * d = mul-le-mul-right d (omega arith) in omega arith
-
+-- ---- n / d rounded down and rounded up
 module _ (n d : ℕ) (D : 0 < d) where
   low-cut : (lo : ℤ) → leZ (lo *ℤ pos d) (pos n) ≡ leZ lo (pos (n / d))
   low-cut (pos a) = leb-same (a * d) n a (n / d) (le-div-iff-mul-le D .1) (le-div-iff-mul-le D .0)
   low-cut (negsuc a) = low-below (suc a * d) n
 
-  high-cut : (hi : ℤ) → leZ (pos n) (hi *ℤ pos d) ≡ leZ (pos (n / d + some (n % d))) hi
-  high-cut (pos a) = leb-same n (a * d) (n / d + some (n % d)) a (ceiling-to n d (n / d) (n % d) (div-add-mod' n d) (mod-lt n D) a) (ceiling-of n d (n / d) (n % d) (div-add-mod' n d) (mod-lt n D) a)
+  high-cut : (hi : ℤ) → leZ (pos n) (hi *ℤ pos d) ≡ leZ (pos (roundedUp n d)) hi
+  high-cut (pos a) =
+      leb-same n (a * d) (roundedUp n d) a
+      (λ h. let g : roundedUp n d < suc a = div-lt-iff-lt-mul D .1 (omega arith) in omega arith)
+      (λ h. let g : n + (d - 1) < suc a * d = div-lt-iff-lt-mul D .0 (omega arith) in omega arith)
   high-cut (negsuc a) = high-below (suc a * d) n (mul-pos (zero-lt-suc a) D)
 
-  pub spans-cut : (lo hi : ℤ) → spans n d lo hi ≡ _&&_ (leZ lo (pos (n / d))) (leZ (pos (n / d + some (n % d))) hi)
+  pub spans-cut : (lo hi : ℤ) → spans n d lo hi ≡ _&&_ (leZ lo (pos (n / d))) (leZ (pos (roundedUp n d)) hi)
   unfolding inZ
   spans-cut lo hi = rw (low-cut lo, high-cut hi)
 

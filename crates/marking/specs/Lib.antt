@@ -1,7 +1,6 @@
 pub mod Marking
 pub mod MarkingLaws
 pub mod Exact
-pub mod Division
 pub mod Figures
 pub mod FiguresLaws
 pub mod StationLaws

@@ -1,5 +1,4 @@
 // The exact value of a binary64 number, read from its sign, exponent and fraction fields, held to a whole lower and upper end.
-use crate::division;
 ghost use mathlib.Core.Path.{_≡_};
 ghost use mathlib.Core.Bool.{not};
 ghost use Prim.Native.Nat.{_*_, _≤_, _<_, _^_};
@@ -9,7 +8,7 @@ ghost use lib.Dec.{T};
 ghost use lib.Ieee.{isNan};
 ghost use mir.Syntax.{w64};
 ghost use mir.Val.{SFits};
-ghost use Rattle.marking.specs.Exact.{FieldsOf, significand, sized, turned, places, spans};
+ghost use Rattle.marking.specs.Exact.{FieldsOf, significand, sized, turned, places, spans, CutOf};
 
 // The three fields of a number's 64 bits.
 pub(crate) struct Fields {
@@ -51,28 +50,48 @@ fn significand_of(exponent: u64, fraction: u64) -> u64
     }
 }
 
-// How many binary places of the scaled significand stand below one unit. It has no more than 70: past them every count leaves the same.
+// How many binary places of the scaled significand are cut off: those that stand below one unit. It has no more than 70, and past them every count leaves the same. From
+// exponent 1063 on a size is 2^40 or more, past every window, and so it is with twelve cut off.
 fn places_of(exponent: u64) -> u64
-    requires { ⌜ exponent ≤ 1062 ⌝ }
     ensures { λ r. ⌜ r ≡ places exponent ⌝ }
 {
-    if exponent < 1005 { 70 } else { 1075 - exponent }
+    if exponent < 1005 {
+        70
+    } else if exponent < 1063 {
+        1075 - exponent
+    } else {
+        12
+    }
 }
 
-// Whether scale times the size of these fields lies from lo to hi. From exponent 1063 on the size is 2^40 or more, past every window.
+// A number rounded down and rounded up.
+struct Cut {
+    floor: u64,
+    ceiling: u64,
+}
+
+// scale * digits / 2^k, rounded down and rounded up. The product has up to 70 binary places: twelve are shifted off part by part, so that the rest fits 64 bits, and then
+// the others. Ones added to the places that go round up, as a sticky bit would.
+fn cut_by(scale: u64, digits: u64, k: u64) -> Cut
+    requires { ⌜ scale ≤ 100000 ⌝ ∗ ⌜ digits < 2 ^ 53 ⌝ ∗ ⌜ 12 ≤ k ⌝ ∗ ⌜ k ≤ 70 ⌝ }
+    ensures { λ r. ⌜ CutOf (scale * digits) (2 ^ k) r ⌝ }
+{
+    let high = scale * (digits >> 12);
+    let low = scale * (digits & 0xfff);
+    let others = k - 12;
+    let ones = (1u64 << others) - 1;
+    Cut {
+        floor: (high + (low >> 12)) >> others,
+        ceiling: (high + ((low + 0xfff) >> 12) + ones) >> others,
+    }
+}
+
+// Whether scale times the size of these fields lies from lo to hi. Both ends are always compared, so that nothing hangs on how well a processor guesses.
 pub(crate) fn lies(scale: u64, fields: Fields, lo: i64, hi: i64) -> bool
     requires { ⌜ 0 < scale ⌝ ∗ ⌜ scale ≤ 100000 ⌝ ∗ ⌜ fields .fraction < 2 ^ 52 ⌝ ∗ ⌜ hi ≤ℤ pos 1000000100000 ⌝ }
     ensures { λ r. ⌜ r ≡ spans (scale * sized (fields .exponent) (fields .fraction)) (2 ^ 1074) lo hi ⌝ }
 {
-    let exponent = fields.exponent;
-    if exponent > 1062 {
-        return false;
-    }
-    let digits = significand_of(exponent, fields.fraction);
-    let size = division::cut_by(scale, digits, places_of(exponent));
-    if lo <= signed::of_u64(size.floor) {
-        signed::of_u64(size.ceiling) <= hi
-    } else {
-        false
-    }
+    let digits = significand_of(fields.exponent, fields.fraction);
+    let size = cut_by(scale, digits, places_of(fields.exponent));
+    (lo <= signed::of_u64(size.floor)) & (signed::of_u64(size.ceiling) <= hi)
 }

@@ -2,7 +2,6 @@
 // `mark` tells the paper's refusals in its order, 12 then 11, else whether the answer counts by the exact value of the number typed in: specs/Marking.antt.
 // `station` tells refusals 1, 3, 4, 5 and 6, else three whole numbers as floats; `difference` is one float subtraction, exact for two like figures of any two
 // stations: specs/Figures.antt and specs/StationLaws.antt.
-mod division;
 mod exact;
 pub mod inner;
 
@@ -20,6 +19,7 @@ ghost use lib.Ieee.{binary64, sub};
 ghost use lib.Ieee.Scale.{finite};
 ghost use Rattle.refusal.specs.Refusals.{first, _when_};
 ghost use Rattle.marking.specs.Marking.{paperMark, marked, near, outOfRange};
+ghost use Rattle.marking.specs.Exact.{scaledOf};
 ghost use Rattle.marking.specs.Figures.{figuresOf, paperStation, stationTold};
 
 const KEY_LIMIT: i64 = 1_000_000_000_000;
@@ -44,6 +44,23 @@ pub enum MarkAnswer {
     Refused(Refusal),
 }
 
+// The number that was typed, with its scale.
+enum Scaled {
+    Number(u64, f64),
+    Nothing,
+}
+
+// A typed answer's number with the scale of its kind.
+fn at_scale(typed: Typed) -> Scaled
+    ensures { λ r. ⌜ r ≡ scaledOf typed ⌝ }
+{
+    match typed {
+        Typed::Kelvins(x) => Scaled::Number(1_000, x),
+        Typed::Content(x) => Scaled::Number(100_000, x),
+        Typed::Blank => Scaled::Nothing,
+    }
+}
+
 // The mark of a typed answer against a key and a window.
 pub fn mark(typed: Typed, key: i64, window: i64) -> MarkAnswer
     ensures { λ r. ⌜ paperMark r ≡ marked typed key window ⌝ }
@@ -54,10 +71,9 @@ pub fn mark(typed: Typed, key: i64, window: i64) -> MarkAnswer
     if !signed::inside(window, 0, WINDOW_LIMIT) {
         return MarkAnswer::Refused(Refusal::Plain(OUT_OF_RANGE));
     }
-    match typed {
-        Typed::Kelvins(x) => mark_number(1_000, x, key, window),
-        Typed::Content(x) => mark_number(100_000, x, key, window),
-        Typed::Blank => MarkAnswer::Refused(Refusal::Plain(NO_NUMBER)),
+    match at_scale(typed) {
+        Scaled::Number(scale, x) => mark_number(scale, x, key, window),
+        Scaled::Nothing => MarkAnswer::Refused(Refusal::Plain(NO_NUMBER)),
     }
 }
 

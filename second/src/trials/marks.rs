@@ -8,9 +8,16 @@ use crate::trials::EXTREMES;
 const FARTHEST: i64 = 1_000_000_000_000;
 const WIDEST: i64 = 100_000;
 
-pub fn requests(dice: &mut Dice) -> Vec<String> {
-    let decimals = (0..2000).map(|_| decimal_mark(dice)).collect();
-    [chosen(), ranges(), decimals, edges(dice), powers(), random(dice)].concat()
+/// Over a million marks, run by run: those that are the same whatever the seed, and sixteen times floats drawn about the edges.
+pub fn runs(dice: &mut Dice) -> Vec<Vec<String>> {
+    let mut runs = vec![[chosen(), ranges(), powers()].concat()];
+    runs.extend((0..16).map(|_| drawn(dice)));
+    runs
+}
+
+fn drawn(dice: &mut Dice) -> Vec<String> {
+    let decimals = (0..1000).map(|_| decimal_mark(dice)).collect();
+    [decimals, edges(dice), random(dice)].concat()
 }
 
 fn mark(kind: &str, x: f64, key: i64, window: i64) -> String {
@@ -97,7 +104,7 @@ fn edges(dice: &mut Dice) -> Vec<String> {
         let edge = dice.one_of(&[key - window, key + window]);
         about(kind, edge as f64 / scale, key, window)
     };
-    (0..2200).flat_map(&mut request).collect()
+    (0..1100).flat_map(&mut request).collect()
 }
 
 /// Floats about powers of two, where floats lie closer below than above, with the whole key
@@ -131,5 +138,5 @@ fn random(dice: &mut Dice) -> Vec<String> {
         let key = (key + off).clamp(-FARTHEST, FARTHEST - 4);
         grid(kind, x, 10, key, 5, window)
     };
-    (0..500).flat_map(&mut request).collect()
+    (0..300).flat_map(&mut request).collect()
 }

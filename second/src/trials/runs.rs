@@ -19,7 +19,7 @@ pub fn runs(seed: u64) -> Vec<(String, Run)> {
     let dice = &mut Dice::new(seed);
     let kinds = [
         ("rows", vec![ask(&[rows::edges(), rows::between(dice), rows::inverses(dice)].concat())]),
-        ("marks", vec![ask(&marks::requests(dice))]),
+        ("marks", marks::runs(dice).iter().map(|requests| ask(requests)).collect()),
         ("misfits", vec![ask(&misfits::requests(dice))]),
         ("burn", vec![ask(&gas::burning(dice))]),
         ("gas", over_good_sheets(dice)),

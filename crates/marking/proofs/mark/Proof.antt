@@ -1,13 +1,16 @@
--- `mark`: 12 by the two tests of range, 11 for a blank, and each number at its own scale. Assumes nothing.
+-- `mark`: 12 by the two tests of range, 11 for a blank, and each number at the scale of its kind (proofs/Scales.antt). Assumes nothing.
 use borrow.Author.Needs.{needs}
 use borrow.Author.Tests.{not-true, not-false}
-use mathlib.Core.Path.{_≡_, refl, sym, _∙_}
+use mathlib.Core.Path.{_≡_, refl, sym, ap, _∙_, subst}
 use mathlib.Core.Bool.{false}
-use lib.Dec.{lit<, lit≤}
 use lib.IntN.{pos, negℤ}
 use Rattle.signed.specs.Zed.{back, in-plain}
 use Rattle.marking.specs.Marking.{outOfRange}
+use Rattle.marking.specs.Exact.{scaledOf}
+use Rattle.marking.specs.declared.Scaled.{Scaled}
+use Rattle.marking.specs.declared.Scaled.the-variants.{Number}
 use Rattle.marking.proofs.Ends.{key-outside, window-outside, both-inside}
+use Rattle.marking.proofs.Scales.{toldOf, by-scale, Sound, sound}
 use Rattle.marking.proofs.mark.Statement.{statement}
 use Rattle.marking.proofs.mark.Tie as tie
 
@@ -39,39 +42,42 @@ returns-2 c =
     let s = c .before .before .before .before in
     sym (rw (window-outside (s .args .key) (s .args .window) (sym (in-plain (pos 0) (pos 100000) (s .fits .window) (c .before .inside2 .ensures)) ∙ not-true _ (c .if2 .taken))) refl)
 
-enum-known-typed : tie.Need-enum-known-typed
-enum-known-typed c = search needs
+at-scale-requires : tie.Need-at-scale-requires
+at-scale-requires c κs = search needs
+
+enum-known-scale : tie.Need-enum-known-scale
+enum-known-scale c = search needs
+
+-- the number and its scale, found in what was typed
+number-is : (c : tie.After-scale) → let s = c .before .before .before .before .before .before .before in scaledOf (s .args .typed) ≡ Number (c .scale .given .0 .0) (c .scale .given .0 .1 .0)
+number-is c = sym (c .before .before .at-scale .ensures) ∙ c .scale .given .1
 
 mark-number-requires : tie.Need-mark-number-requires
 mark-number-requires c κs =
-    let at-in-range = c .before .before .before in
-    let s = at-in-range .before .before .before .before in (lit< tt, (lit≤ tt, rw (back (s .fits .key), back (s .fits .window)) (in-range at-in-range)))
-
-enum-known-typed-2 : tie.Need-enum-known-typed-2
-enum-known-typed-2 c = search needs
-
-mark-number-requires-2 : tie.Need-mark-number-requires-2
-mark-number-requires-2 c κs =
-    let at-in-range = c .before .before .before in
-    let s = at-in-range .before .before .before .before in (lit< tt, (lit≤ tt, rw (back (s .fits .key), back (s .fits .window)) (in-range at-in-range)))
+    let at-in-range = c .before .before .before .before in
+    let s = at-in-range .before .before .before .before in
+    let b = subst Sound (number-is (c .before)) (sound (s .args .typed)) in
+    (b .0, (b .1, rw (back (s .fits .key), back (s .fits .window)) (in-range at-in-range)))
 
 enum-told : tie.Need-enum-told
 enum-told c = search needs
 
 returns-3 : tie.Need-returns-3
 returns-3 c =
-    let s = c .before .before .before .before .before .before .before .before in
-    rw (in-range (c .before .before .before .before), c .before .before .typed .given .1) (rw (back (s .fits .key), back (s .fits .window)) at (c .mark-number .ensures))
+    let at-in-range = c .before .before .before .before .before in
+    let s = at-in-range .before .before .before .before in
+    let a = s .args in
+    (rw (back (s .fits .key), back (s .fits .window)) at (c .mark-number .ensures))
+    ∙ sym (by-scale (a .typed) (a .key) (a .window) (in-range at-in-range) ∙ ap (λ (n : Scaled). toldOf n (a .key) (a .window)) (number-is (c .before .before)))
 
 returns-4 : tie.Need-returns-4
 returns-4 c =
-    let s = c .before .before .before .before .before .before .before .before in
-    rw (in-range (c .before .before .before .before), c .before .before .typed2 .given .1) (rw (back (s .fits .key), back (s .fits .window)) at (c .mark-number2 .ensures))
-
-returns-5 : tie.Need-returns-5
-returns-5 c = rw (in-range (c .before .before), c .enum-told .given .1) refl
+    let at-in-range = c .before .before .before in
+    let a = at-in-range .before .before .before .before .args in
+    sym
+    (by-scale (a .typed) (a .key) (a .window) (in-range at-in-range)
+    ∙ ap (λ (n : Scaled). toldOf n (a .key) (a .window)) (sym (c .before .before .at-scale .ensures) ∙ c .enum-told .given .1))
 
 pub mark-spec : {M : Type 1} → statement M
 mark-spec =
-    tie.close (tie.spec sub-inside inside-requires returns inside-requires-2 returns-2 enum-known-typed mark-number-requires enum-known-typed-2 mark-number-requires-2
-    enum-told returns-3 returns-4 returns-5)
+    tie.close (tie.spec sub-inside inside-requires returns inside-requires-2 returns-2 at-scale-requires enum-known-scale mark-number-requires enum-told returns-3 returns-4)
