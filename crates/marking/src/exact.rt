@@ -1,4 +1,4 @@
-// The exact value of a binary64 number, read from its sign, exponent and fraction fields, held to a whole lower and upper end.
+// The exact value of a binary64 number, read from its sign, exponent and fraction fields, held to a whole lower and upper end by shifts and compares.
 ghost use mathlib.Core.Path.{_≡_};
 ghost use mathlib.Core.Bool.{not};
 ghost use Prim.Native.Nat.{_*_, _≤_, _<_, _^_};

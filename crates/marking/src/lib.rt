@@ -50,7 +50,7 @@ enum Scaled {
     Nothing,
 }
 
-// A typed answer's number with the scale of its kind.
+// A typed answer's number with the scale of its kind. It is picked first, so that a number is marked in one place: in two copies, one for each scale, the compiler branches on the answer.
 fn at_scale(typed: Typed) -> Scaled
     ensures { λ r. ⌜ r ≡ scaledOf typed ⌝ }
 {
