@@ -51,6 +51,10 @@ module _ (n d m c : ℕ) (D : 0 < d) (C : 0 < c) (e : n * c ≡ m * d) where
   spans-same lo hi = rw (low-same lo, high-same hi)
 
 -- ---- n / d rounded down and rounded up
+-- rounded down it is not below lo, and rounded up not above hi
+abbrev pub cutSpans : ℕ → ℕ → ℤ → ℤ → Bool
+cutSpans n d lo hi = _&&_ (leZ lo (pos (n / d))) (leZ (pos (roundedUp n d)) hi)
+
 module _ (n d : ℕ) (D : 0 < d) where
   low-cut : (lo : ℤ) → leZ (lo *ℤ pos d) (pos n) ≡ leZ lo (pos (n / d))
   low-cut (pos a) = leb-same (a * d) n a (n / d) (le-div-iff-mul-le D .1) (le-div-iff-mul-le D .0)
@@ -63,7 +67,7 @@ module _ (n d : ℕ) (D : 0 < d) where
       (λ h. let g : n + (d - 1) < suc a * d = div-lt-iff-lt-mul D .0 (omega arith) in omega arith)
   high-cut (negsuc a) = high-below (suc a * d) n (mul-pos (zero-lt-suc a) D)
 
-  pub spans-cut : (lo hi : ℤ) → spans n d lo hi ≡ _&&_ (leZ lo (pos (n / d))) (leZ (pos (roundedUp n d)) hi)
+  pub spans-cut : (lo hi : ℤ) → spans n d lo hi ≡ cutSpans n d lo hi
   unfolding inZ
   spans-cut lo hi = rw (low-cut lo, high-cut hi)
 
