@@ -18,21 +18,21 @@ pub fn rows(list: &[u32]) -> Vec<(&'static str, Inputs)> {
     vec![
         ("walk of 64 steps", Inputs::Walks(walks(dice, &gases, INPUTS, 64))),
         ("walk of 1 step", Inputs::Walks(walks(dice, &gases, INPUTS, 1))),
-        ("temperature of a heat", Inputs::Heats(draw(|| heat(dice, &gases)))),
-        ("specific content", Inputs::Specifics(draw(|| state(dice)))),
-        ("station", Inputs::Stations(draw(|| state(dice)))),
+        ("temperature of a heat", Inputs::Heats(draw(INPUTS, || heat(dice, &gases)))),
+        ("specific content", Inputs::Specifics(draw(INPUTS, || state(dice)))),
+        ("station", Inputs::Stations(draw(INPUTS, || state(dice)))),
         ("sheet judged", Inputs::Sheet),
         ("sheet read", Inputs::Text(sheet::text(list).into_bytes())),
         ("sheet in pieces", Inputs::Pieces(sheet::text(list).into_bytes())),
         ("sheet written", Inputs::Written),
-        ("psi inverse", Inputs::Psis(draw(|| dice.from_to(95_264_000, 133_150_999)))),
-        ("mark, short fractions", Inputs::Marks(marks(dice, 3_600, 2.0))),
-        ("mark, long fractions", Inputs::Marks(marks(dice, 1 << 53, 4.5e12))),
+        ("psi inverse", Inputs::Psis(draw(INPUTS, || dice.from_to(95_264_000, 133_150_999)))),
+        ("mark, short fractions", Inputs::Marks(draw(SHORT_INPUTS, || mark(dice, 3_600, 2.0)))),
+        ("mark, long fractions", Inputs::Marks(draw(SHORT_INPUTS, || mark(dice, 1 << 53, 4.5e12)))),
     ]
 }
 
-fn draw<T>(one: impl FnMut() -> T) -> Vec<T> {
-    std::iter::repeat_with(one).take(INPUTS).collect()
+fn draw<T>(count: usize, one: impl FnMut() -> T) -> Vec<T> {
+    std::iter::repeat_with(one).take(count).collect()
 }
 
 pub fn lean(dice: &mut Dice) -> Charge {
@@ -68,10 +68,6 @@ pub fn walks(dice: &mut Dice, gases: &Gases, count: usize, steps: usize) -> Vec<
         (charge, start, numbers)
     };
     (0..count).map(|_| walk()).collect()
-}
-
-fn marks(dice: &mut Dice, most: i64, divisor: f64) -> Vec<(f64, i64)> {
-    (0..SHORT_INPUTS).map(|_| mark(dice, most, divisor)).collect()
 }
 
 /// A number of kelvins, and a key that it meets or misses within a window of 100.

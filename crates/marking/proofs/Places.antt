@@ -6,11 +6,11 @@ use Prim.Native.Nat.{ℕ, zero, suc, _+_, _-_, _*_, _/_, _^_, _≤_, _<_}
 use native.Mathlib.Nat.{le-trans, lt-of-lt-of-le, mul-assoc, mul-le-mul, le-div-iff-mul-le, le-add-right, div-eq-of-lt, mul-add-div-right}
 use native.Mathlib.Decide.{decLe}
 use native.Mathlib.Omega.{arith}
-use lib.Dec.{lit≤, leb→le}
-use lib.IntN.{ℤ, pos, negsuc}
+use lib.Dec.{lit≤}
+use lib.IntN.{ℤ, pos}
 use lib.Signed.{leZ, _≤ℤ_}
 use lib.Pow.{pow-add, pow-pos, pow-mono}
-use Rattle.signed.specs.Zed.{no-leZ}
+use Rattle.signed.specs.Zed.{no-leZ, zed}
 use Rattle.marking.specs.Exact.{significand, sized, spans, places, roundedUp}
 use Rattle.marking.proofs.Spans.{cutSpans, spans-same, spans-cut}
 use Rattle.marking.proofs.Shifts.{product-lt}
@@ -29,8 +29,7 @@ both-false true = refl
 both-false false = refl
 
 above : (n : ℕ) (hi : ℤ) → 2 ^ 40 ≤ n → hi ≤ℤ pos 1000000100000 → leZ (pos n) hi ≡ false
-above n (pos a) N H = let h = leb→le a 1000000100000 (H .le) in no-leZ (pos n) (pos a) (omega arith)
-above n (negsuc a) N H = refl
+above n hi N H = no-leZ (pos n) hi (omega zed)
 
 past : (n d : ℕ) (lo hi : ℤ) → 0 < d → 2 ^ 40 * d ≤ n → hi ≤ℤ pos 1000000100000 → cutSpans n d lo hi ≡ false
 past n d lo hi D N H =
