@@ -2,6 +2,8 @@
 // Every call takes any signed number and promises an equation: what the answer tells, in the paper's numbers (specs/Answers.antt), is the first
 // refusal of its order whose condition holds (refusal/specs/Refusals.antt), else the table's reading (specs/Readings.antt, specs/Inverse.antt).
 // The halving theory of specs/ is stated over any value by temperature, for the gas above as for psi here.
+#![tactic(auto)]
+
 pub mod inner;
 mod search;
 

@@ -1,5 +1,7 @@
 // The sheet that comes with the product, from Table 5 of R. & M. 3099: O2, CO2 and H2O of 200 K, then of 201 K, and so on. It is
 // promised to be the list in specs/BuiltIn.antt, which is accepted (specs/BuiltInLaws.antt). Made from data/table5-scan.tsv and data/table1-scan.tsv; to make it again, run tools/sheet.
+#![tactic(auto)]
+
 ghost use Rattle.std.specs.Prelude.{◌≡◌};
 ghost use Rattle.built_in.specs.BuiltIn.{built_in};
 

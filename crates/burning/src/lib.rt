@@ -1,6 +1,8 @@
 // Burning (document 01, "Burning"): a charge of air and fuel, its limits, whether it is lean, what it burns to, and fuel added to it.
 // The call takes every input. What it tells, in the paper's numbers (specs/Answers.antt), is the first refusal of its order whose condition holds, else the
 // paper's formula in whole numbers (specs/Burning.antt).
+#![tactic(auto)]
+
 pub mod fuelling;
 pub mod inner;
 pub mod weights;

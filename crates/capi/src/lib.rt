@@ -3,6 +3,8 @@
 // (specs/Flat.antt of telling). Lent lists hold on return what the entry promises (specs/Lent.antt). The reading of a sheet in
 // pieces goes in and out as seven numbers. Two have no entry below: the built-in sheet put into a list, and the version.
 // include/gaskeys.h has the same calls for a reader of C.
+#![tactic(auto)]
+
 ghost use Rattle.std.specs.Prelude.{◌≡◌, [], ◌∷◌};
 ghost use Rattle.air.specs.Answers.{air_heat_told, psi_told as airPsiTold, cp_told as airCpTold};
 ghost use Rattle.sheet.specs.Answers.{judge_told};

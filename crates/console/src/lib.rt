@@ -1,6 +1,8 @@
 // The console: one request line in, one answer line out, fields parted by tabs (docs/PROGRAM.md). The answer's bytes are a definition's, `answer_of` of
 // specs/Answers.antt, for every line and every sheet list: the numbers of the layers below as their own definitions tell them, in one definition of text. And the
 // printed walk, `printed_walk` of specs/Walks.antt.
+#![tactic(auto)]
+
 pub mod inner;
 mod marks;
 mod replies;

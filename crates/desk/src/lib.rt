@@ -1,5 +1,7 @@
 // The program `keys` (docs/PROGRAM.md): its arguments, its files, standard input and output over `console`. No contract can say what is read or written, so these
 // functions promise that they are safe and end; the texts that they write are promised by `forms` and the console. Every program that runs a form of `keys` calls `run`.
+#![tactic(auto)]
+
 mod arguments;
 mod asking;
 mod lines;

@@ -1,5 +1,7 @@
 // The fields of a line, parted by tabs: the whole numbers that they are (specs/Fields.antt), and the place of a word among them (specs/Words.antt). For the
 // console above and its programs: every function takes every input and promises an equation.
+#![tactic(auto)]
+
 ghost use Rattle.std.specs.Prelude.{◌≡◌, ◌+◌, length, set, drop};
 ghost use Rattle.fields.specs.Words.{position_of};
 ghost use Rattle.fields.specs.Fields.{span_to, span_of, fields_of, fields_from, holds_return, count_all, Stored, held_of, is_count, one_of, two_of};

@@ -1,6 +1,8 @@
 // The gas (document 01, "Burning" and "Temperature from heat"): the heat, contents and specific content of what a charge burns to, and the temperature of a heat.
 // Every call takes every input and judges a sheet list that it is lent first, once. What an answer tells, in the paper's numbers (specs/Answers.antt), is the
 // first refusal of its order whose condition holds, else the paper's formula in whole numbers (specs/Heat.antt).
+#![tactic(auto)]
+
 mod heats;
 pub mod inner;
 mod search;

@@ -1,4 +1,6 @@
 // `keys`: document 01's printed walk, and how to go on.
+#![tactic(auto)]
+
 fn main() {
     desk::run();
 }

@@ -2,6 +2,8 @@
 // `mark` tells the paper's refusals in its order, 12 then 11, else whether the answer counts by the exact value of the number typed in: specs/Marking.antt.
 // `station` tells refusals 1, 3, 4, 5 and 6, else three whole numbers as floats; `difference` is one float subtraction, exact for two like figures of any two
 // stations: specs/Figures.antt and specs/StationLaws.antt.
+#![tactic(auto)]
+
 mod exact;
 pub mod inner;
 

@@ -1,5 +1,7 @@
 // A refusal (document 01, "Refusal numbers"): what every call gives in place of its values. The crate is below all others, so that a crate that refuses needs this one for it
 // and no more. specs/ has what a call tells, the order of its refusals, and demand 1 over any order (specs/Refusals.antt, specs/RefusalsLaws.antt).
+#![tactic(auto)]
+
 ghost use Rattle.std.specs.Prelude.{◌≡◌};
 ghost use Rattle.refusal.specs.Refusals.{number_of};
 

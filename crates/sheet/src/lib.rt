@@ -4,6 +4,8 @@
 // condition holds. The conditions are of the text itself (specs/Text.antt of sheet_text) and of the list by kelvin (specs/Sheet.antt); a refusal leaves the list, or the
 // buffer, as it was, but for the rows before the bad one of a text in pieces. What was written is read as the same list, and what was read is written as the same bytes where
 // its list keeps the step rule (specs/WritingLaws.antt).
+#![tactic(auto)]
+
 pub mod inner;
 mod judging;
 pub mod pieces;

@@ -1,6 +1,8 @@
 // The text of a sheet (document 01, "The gas sheet"), read byte by byte: a place in the sheet by value, moved on by one byte at a time, and the numbers put into a list. For
 // `sheet` above, which tells the answer: each function is one definition of specs/Machine.antt, and the laws show that what it finds is the form of the text (specs/Text.antt).
 // `writing` counts and writes that text.
+#![tactic(auto)]
+
 pub mod writing;
 
 ghost use Rattle.std.specs.Prelude.{◌≡◌, Bool, cond, ◌+◌, ◌*◌, ◌<◌, length};

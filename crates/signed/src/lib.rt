@@ -1,6 +1,8 @@
 // Signed 64-bit numbers: the few operations that the keys need of them, each equal to the whole-number operation that it stands for.
 // The promises cite ℤ alone. The laws that carry ℤ to the naturals, where facts of numbers are decided, are in specs/Zed.antt; how a number is rounded is said in specs/Nearest.antt.
 // Every number that comes in from outside is tested by `inside` first; past that test the work is done in u64.
+#![tactic(auto)]
+
 ghost use Rattle.std.specs.Prelude.{◌≡◌, ◌<◌, pos, ◌-ℤ◌, ◌≤ℤ◌};
 ghost use Rattle.std.specs.Int.{w64};
 ghost use Rattle.std.proofs.Common.{SFits};

@@ -1,5 +1,7 @@
 // Pieces and lines from an input, and answers to standard output, for the programs. How a line is taken from the pieces that are read is promised by an equation
 // (specs/Taking.antt), and so is that a failed write closes the output for good (specs/Writing.antt). No contract can say what is read or written.
+#![tactic(auto)]
+
 ghost use Rattle.std.specs.Prelude.{◌≡◌, ◌≤◌, length};
 ghost use Rattle.stream.specs.Taking.{pushed, Takes, Inside};
 ghost use Rattle.stream.specs.Reading.{piece_of, nothing_read, Reads, last_line, taken_with, over_with};

@@ -1,6 +1,8 @@
 // What the calls for C and Rust tell: each answer as one struct by value, set out by one definition of specs/Flat.antt: 0 or the refusal's number, its row and whether it
 // has one, the values, and 0 in every field that a case does not have. A typed answer comes in by the number of its kind, and a reading in pieces as seven numbers
 // (`pieces`). For `capi` above.
+#![tactic(auto)]
+
 pub mod pieces;
 
 ghost use Rattle.std.specs.Prelude.{◌≡◌};

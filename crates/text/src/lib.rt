@@ -2,6 +2,8 @@
 // What is read and what is written are one definition, `decimal` and `decimal_z` of specs/Decimal.antt. The readers promise an equation and take every input, and so do
 // the writers from a place on: they promise `Put`, which fixes the buffer and the place after the text and joins by `put_then`. A text whose length was counted is
 // written from its end, where there is room for it, so that no number is measured twice: `Stands`, which joins by `stands_before`.
+#![tactic(auto)]
+
 ghost use Rattle.std.specs.Prelude.{◌≡◌, Bool, ◌≤◌, List, [], ◌∷◌, ◌++◌, nat_abs, length};
 ghost use Rattle.text.specs.Decimal.{decimal, decimal_z};
 ghost use Rattle.text.specs.Wholes.{is_digit, may_follow, extended, step_digits, digits_of, Within, plus_of, minus_of, minus_first, whole_of};

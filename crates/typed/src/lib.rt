@@ -1,5 +1,7 @@
 // A typed number as a float: a decimal number of at most 15 significant digits, by one correctly rounded division, or `x` and the 16 hexadecimal digits of
 // its bits. Every function takes every text and promises an equation with specs/Typed.antt. An inner door as a whole: the console above reads answers by it.
+#![tactic(auto)]
+
 ghost use Rattle.std.specs.Prelude.{◌≡◌, ◌&&◌, ◌<◌, ◌^◌, leb, pos};
 ghost use Rattle.std.specs.Float.{binary64};
 ghost use Rattle.std.specs.Float.Ieee.{of_int, of_bits, nan_bits};

@@ -1,6 +1,8 @@
 // The walk (document 01, "The walk"): steps of fuel and heat from a starting charge, temperature and sheet, each step's temperature, rest and looks in lent
 // lists. The promise fixes what comes back and every place of the three lists for any input: what the answer tells is the first refusal of the start, else the run
 // over the steps up to the first that is refused (specs/Walk.antt, specs/Step.antt). Demand 3 is a theorem about every outcome that meets it (specs/Demand3.antt).
+#![tactic(auto)]
+
 mod course;
 pub mod inner;
 mod stepping;

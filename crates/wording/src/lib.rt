@@ -1,5 +1,7 @@
 // The wording of an answer (docs/PROGRAM.md): what a call told, as text put into a lent buffer, part after part.
 // Each function promises the bytes of one definition of specs/Texts.antt, that all others stay, and the most bytes that the text has, by specs/Limits.antt. All are inner doors of the programs.
+#![tactic(auto)]
+
 ghost use Rattle.std.specs.Prelude.{◌*◌, ◌≤◌, ◌≡◌, ◌∷◌, map, length, take, pos};
 ghost use Rattle.text.specs.Decimal.{decimal, decimal_z};
 ghost use Rattle.text.specs.Puts.{Puts};
