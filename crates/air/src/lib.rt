@@ -13,18 +13,18 @@ ghost use Rattle.air.specs.Answers.{paper_reading, air_heat_told, psi_told, cp_t
 use refusal::Refusal;
 
 // A temperature in thousandths of a kelvin.
-#[derive(Drop)]
+#[derive(Clone, Copy)]
 pub struct Millikelvin(pub i64);
 
 // A number read from the table, or the refusal.
-#[derive(Drop)]
+#[derive(Clone, Copy)]
 pub enum Reading {
     Is(u64),
     Refused(Refusal),
 }
 
 // The temperature of a psi with the rest, or the refusal.
-#[derive(Drop)]
+#[derive(Clone, Copy)]
 pub enum PsiAnswer {
     At(Millikelvin, u64),
     Refused(Refusal),

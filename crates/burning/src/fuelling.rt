@@ -10,14 +10,14 @@ ghost use Rattle.burning.specs.inner.Counts.{wrong_count, paper_atoms};
 use crate::{Fuel, Gas, inner, weights};
 
 // A count of atoms, or none where atoms are taken away or leave their limit.
-#[derive(Drop)]
+#[derive(Clone, Copy)]
 pub(crate) enum Atoms {
     Are(u64),
     TooMany,
 }
 
 // A gas with fuel added, or none where atoms are taken away or leave their limit.
-#[derive(Drop)]
+#[derive(Clone, Copy)]
 pub enum Fuelled {
     To(Gas),
     Beyond,

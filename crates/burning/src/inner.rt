@@ -8,7 +8,7 @@ use crate::{Charge, Gas, weights};
 use refusal::Refusal;
 
 // A charge that burns lean within its limits, or the refusal.
-#[derive(Drop)]
+#[derive(Clone, Copy)]
 pub enum Admitted {
     Burning(Gas),
     Refused(Refusal),

@@ -15,7 +15,7 @@ use inner::Admitted;
 use refusal::Refusal;
 
 // A charge: parts of air of 100 g, moles of carbon, moles of hydrogen atoms.
-#[derive(Drop)]
+#[derive(Clone, Copy)]
 pub struct Charge {
     pub air: i64,
     pub carbon: i64,
@@ -23,14 +23,14 @@ pub struct Charge {
 }
 
 // Fuel as it is handed in, any numbers: moles of carbon, moles of hydrogen atoms.
-#[derive(Drop)]
+#[derive(Clone, Copy)]
 pub struct Fuel {
     pub carbon: i64,
     pub hydrogen: i64,
 }
 
 // A charge whose numbers are within their limits, unsigned.
-#[derive(Drop)]
+#[derive(Clone, Copy)]
 pub struct Gas {
     pub air: u64,
     pub carbon: u64,
@@ -38,7 +38,7 @@ pub struct Gas {
 }
 
 // What a charge burns to, in mg.
-#[derive(Drop)]
+#[derive(Clone, Copy)]
 pub struct Products {
     pub co2: u64,
     pub h2o: u64,
@@ -48,7 +48,7 @@ pub struct Products {
 }
 
 // The masses that take part in a gas heat, in mg: the air, the oxygen used, CO2 and H2O.
-#[derive(Drop)]
+#[derive(Clone, Copy)]
 pub struct Masses {
     pub air: u64,
     pub used: i64,
@@ -57,7 +57,7 @@ pub struct Masses {
 }
 
 // The products, or the refusal.
-#[derive(Drop)]
+#[derive(Clone, Copy)]
 pub enum BurnAnswer {
     Is(Products),
     Refused(Refusal),

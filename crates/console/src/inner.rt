@@ -15,7 +15,7 @@ use sheet::SheetAnswer;
 use walk::WalkAnswer;
 
 // A walk that was put into a buffer: the place after it, and what the walk came to.
-#[derive(Drop)]
+#[derive(Clone, Copy)]
 pub struct Printed {
     pub end: usize,
     pub answer: WalkAnswer,

@@ -11,7 +11,7 @@ use marking::Typed;
 use typed::Number;
 
 // What kind of answer is typed.
-#[derive(Drop)]
+#[derive(Clone, Copy)]
 enum Kind {
     Kelvins,
     Content,

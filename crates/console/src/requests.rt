@@ -10,7 +10,7 @@ use refusal::Refusal;
 use sheet::SheetAnswer;
 
 // What a line asks for, in the order of the table of words.
-#[derive(Drop)]
+#[derive(Clone, Copy)]
 pub enum Request {
     Mark,
     Walk,
@@ -28,7 +28,7 @@ pub enum Request {
 }
 
 // What is asked of air, by one number: mK, kelvins, or the psi whose temperature is asked (`Inverse`).
-#[derive(Drop)]
+#[derive(Clone, Copy)]
 pub enum OfAir {
     Heat,
     Psi,
@@ -37,7 +37,7 @@ pub enum OfAir {
 }
 
 // What is asked of a gas over a sheet, by a charge's numbers and one more: mK, or the heat whose temperature is asked (`Inverse`).
-#[derive(Drop)]
+#[derive(Clone, Copy)]
 pub enum OfGas {
     Heat,
     Content,
@@ -104,7 +104,7 @@ pub(crate) fn request_of(word: &[u8]) -> Request
 }
 
 // A charge with a number, to be asked of a sheet that was judged; the refusal that the sheet was given when it was read; or fields of another form.
-#[derive(Drop)]
+#[derive(Clone, Copy)]
 pub enum GasAsk {
     Of(Charge, i64),
     Refused(Refusal),

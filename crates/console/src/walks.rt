@@ -21,7 +21,7 @@ use sheet::SheetAnswer;
 use walk::WalkAnswer;
 
 // How a walk is shown: in one line, or on a page with a line for each step.
-#[derive(Drop)]
+#[derive(Clone, Copy)]
 pub enum Layout {
     Line,
     Page,

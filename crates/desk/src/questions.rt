@@ -16,7 +16,7 @@ use stream::{Held, Line, Output};
 use walk::WalkAnswer;
 
 // The question of an input, or that it could not be read.
-#[derive(Drop)]
+#[derive(Clone, Copy)]
 enum Input {
     Question(Question),
     Unread,

@@ -14,7 +14,7 @@ use sheet::{SheetAnswer, pieces};
 use stream::{Got, Output};
 
 // What an input brought: a sheet's reading, or that it could not be read.
-#[derive(Drop)]
+#[derive(Clone, Copy)]
 pub(crate) enum Input {
     Sheet(Intake),
     Unread,

@@ -9,14 +9,14 @@ ghost use Rattle.fields.specs.Fields.{span_to, span_of, fields_of, fields_from, 
 use text::Whole;
 
 // How many numbers the fields are, or that one of them is none.
-#[derive(Drop)]
+#[derive(Clone, Copy)]
 pub enum Numbers {
     Count(usize),
     Bad,
 }
 
 // Two numbers and no more.
-#[derive(Drop)]
+#[derive(Clone, Copy)]
 pub enum Two {
     Are(i64, i64),
     Not,
@@ -139,7 +139,7 @@ pub fn position_in(word: &[u8], text: &[u8]) -> usize
     let mut n = 0;
     while from <= text.len() {
         let end = field_end(text, from);
-        if check::same(word, &text[from..end]) {
+        if word == &text[from..end] {
             return n;
         }
         n += 1;

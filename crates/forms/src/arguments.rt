@@ -6,7 +6,7 @@ ghost use Rattle.forms.specs.Arguments.{words, word_of, option_at, form_at, plai
 ghost use Rattle.forms.specs.inner.Seen.{no_words, first_with, option_with, with_word};
 
 // What a word of the arguments is.
-#[derive(Drop)]
+#[derive(Clone, Copy)]
 pub enum Word {
     Ask,
     Walk,
@@ -19,21 +19,21 @@ pub enum Word {
 }
 
 // The words seen so far: which the first is, and the place of the first `--sheet`, 0 for none.
-#[derive(Drop)]
+#[derive(Clone, Copy)]
 pub struct Words {
     pub first: Word,
     pub option: usize,
 }
 
 // A file by the number of the argument that names it, or none.
-#[derive(Drop)]
+#[derive(Clone, Copy)]
 pub enum Named {
     Nothing,
     Argument(usize),
 }
 
 // What is done over a sheet: the example is printed, a walk is printed from a file or from standard input, requests are answered, the sheet's text is printed.
-#[derive(Drop)]
+#[derive(Clone, Copy)]
 pub enum Job {
     Example,
     Walk(Named),
@@ -42,7 +42,7 @@ pub enum Job {
 }
 
 // A job over the sheet that is named, a sheet to judge from a file or from standard input, how to go on, the version, a `--sheet FILE` that does not stand at the end, or arguments that are no form.
-#[derive(Drop)]
+#[derive(Clone, Copy)]
 pub enum Form {
     Over(Job, Named),
     Sheet(Named),

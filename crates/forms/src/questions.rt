@@ -21,7 +21,7 @@ const KEPT_LINES: u64 = walk::MOST_STEPS as u64 + 2;
 pub const KEPT_NUMBERS: usize = walk::STEP_NUMBERS * (walk::MOST_STEPS + 2);
 
 // A question so far: how many lines were good, or the number of the first that was not as many numbers or that had a carriage return.
-#[derive(Drop)]
+#[derive(Clone, Copy)]
 pub enum Question {
     Good(u64),
     Bad(u64),

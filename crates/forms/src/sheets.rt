@@ -13,14 +13,14 @@ use sheet::{SheetAnswer, pieces};
 use sheet_text::writing;
 
 // A verdict whose line stands in a buffer up to a place.
-#[derive(Drop)]
+#[derive(Clone, Copy)]
 pub struct Judgement {
     pub verdict: SheetAnswer,
     pub end: usize,
 }
 
 // What has come of a sheet: where its reading stands, and whether a carriage return decided that it is refused.
-#[derive(Drop)]
+#[derive(Clone, Copy)]
 pub struct Intake {
     pub reading: SheetReading,
     pub returned: bool,

@@ -17,32 +17,32 @@ use refusal::Refusal;
 use sheet::SheetAnswer;
 
 // A gas heat, in mg times 0.00001 C.H.U./lb.
-#[derive(Drop)]
+#[derive(Clone, Copy)]
 pub struct Heat(pub i64);
 
 // What a heat is counted above: 0 K for a gas heat, 15 °C for a content.
-#[derive(Drop)]
+#[derive(Clone, Copy)]
 pub enum Above {
     Zero,
     Fifteen,
 }
 
 // A gas heat or a content, or the refusal.
-#[derive(Drop)]
+#[derive(Clone, Copy)]
 pub enum HeatAnswer {
     Is(Heat),
     Refused(Refusal),
 }
 
 // A specific content in 0.00001 C.H.U./lb, or the refusal.
-#[derive(Drop)]
+#[derive(Clone, Copy)]
 pub enum SpecificAnswer {
     Is(i64),
     Refused(Refusal),
 }
 
 // The temperature of a heat with the rest, or the refusal.
-#[derive(Drop)]
+#[derive(Clone, Copy)]
 pub enum TemperatureAnswer {
     At(Millikelvin, Heat),
     Refused(Refusal),

@@ -6,7 +6,7 @@ ghost use Rattle.std.proofs.Common.{SFits};
 ghost use Rattle.marking.specs.Exact.{FieldsOf, significand, sized, turned, places, spans, CutOf};
 
 // The three fields of a number's 64 bits.
-#[derive(Drop)]
+#[derive(Clone, Copy)]
 pub(crate) struct Fields {
     pub negative: bool,
     pub exponent: u64,
@@ -61,7 +61,7 @@ fn places_of(exponent: u64) -> u64
 }
 
 // A number rounded down and rounded up.
-#[derive(Drop)]
+#[derive(Clone, Copy)]
 struct Cut {
     floor: u64,
     ceiling: u64,

@@ -10,7 +10,7 @@ use burning::inner::Admitted;
 use refusal::Refusal;
 
 // A station's whole numbers: mK, specific content in 0.00001 C.H.U./lb, total mass in mg.
-#[derive(Drop)]
+#[derive(Clone, Copy)]
 pub struct StationNumbers {
     pub mk: i64,
     pub specific: i64,
@@ -18,7 +18,7 @@ pub struct StationNumbers {
 }
 
 // A station's whole numbers, or the refusal.
-#[derive(Drop)]
+#[derive(Clone, Copy)]
 pub enum NumbersAnswer {
     Are(StationNumbers),
     Refused(Refusal),

@@ -31,7 +31,7 @@ const NO_NUMBER: u32 = 11;
 const OUT_OF_RANGE: u32 = 12;
 
 // What a candidate typed in: kelvins, a specific content in C.H.U./lb, or nothing.
-#[derive(Drop)]
+#[derive(Clone, Copy)]
 pub enum Typed {
     Kelvins(f64),
     Content(f64),
@@ -39,7 +39,7 @@ pub enum Typed {
 }
 
 // Whether a typed answer counts, or why it is not marked.
-#[derive(Drop)]
+#[derive(Clone, Copy)]
 pub enum MarkAnswer {
     Counts,
     Misses,
@@ -47,7 +47,7 @@ pub enum MarkAnswer {
 }
 
 // The number that was typed, with its scale.
-#[derive(Drop)]
+#[derive(Clone, Copy)]
 enum Scaled {
     Number(u64, f64),
     Nothing,
@@ -103,7 +103,7 @@ fn mark_number(scale: u64, x: f64, key: i64, window: i64) -> MarkAnswer
 }
 
 // A station's figures for the pages, whole numbers all: mK, specific content in 0.00001 C.H.U./lb, total mass in mg.
-#[derive(Drop)]
+#[derive(Clone, Copy)]
 pub struct StationFigure {
     pub millikelvin: f64,
     pub content: f64,
@@ -111,7 +111,7 @@ pub struct StationFigure {
 }
 
 // A station's figures, or the refusal.
-#[derive(Drop)]
+#[derive(Clone, Copy)]
 pub enum StationAnswer {
     Is(StationFigure),
     Refused(Refusal),

@@ -19,14 +19,14 @@ use refusal::Refusal;
 use sheet_text::writing;
 
 // A good sheet, or the refusal.
-#[derive(Drop)]
+#[derive(Clone, Copy)]
 pub enum SheetAnswer {
     Good,
     Refused(Refusal),
 }
 
 // The bytes of the text that was written, or the refusal.
-#[derive(Drop)]
+#[derive(Clone, Copy)]
 pub enum WriteAnswer {
     Written(usize),
     Refused(Refusal),

@@ -9,7 +9,7 @@ use refusal::Refusal;
 use sheet_text::{Place, State};
 
 // Where a reading stands: at a place from which a good sheet can follow, refused with 2 at a row, or accepted.
-#[derive(Drop)]
+#[derive(Clone, Copy)]
 pub enum SheetReading {
     Going(Place),
     Refused(u32),
@@ -17,7 +17,7 @@ pub enum SheetReading {
 }
 
 // The answer to a piece: more is expected, the sheet is accepted, or the refusal.
-#[derive(Drop)]
+#[derive(Clone, Copy)]
 pub enum PieceAnswer {
     More,
     Accepted,
@@ -25,14 +25,14 @@ pub enum PieceAnswer {
 }
 
 // The reading after a piece, with the answer.
-#[derive(Drop)]
+#[derive(Clone, Copy)]
 pub struct Taken {
     pub reading: SheetReading,
     pub answer: PieceAnswer,
 }
 
 // The reading after the close, with the answer: nothing more is expected.
-#[derive(Drop)]
+#[derive(Clone, Copy)]
 pub struct Closed {
     pub reading: SheetReading,
     pub answer: SheetAnswer,

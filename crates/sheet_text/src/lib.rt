@@ -21,7 +21,7 @@ pub const MOST_FIGURE: u64 = 200000;
 pub const MOST_TEXT: usize = 46026;
 
 // Where the reader stands: the row, the field in it, the number so far and whether it has a digit, and the row's first two numbers.
-#[derive(Drop)]
+#[derive(Clone, Copy)]
 pub struct Place {
     pub row: u32,
     pub field: u8,
@@ -32,7 +32,7 @@ pub struct Place {
 }
 
 // A place from which a good sheet can follow, or the row of the byte after which none can.
-#[derive(Drop)]
+#[derive(Clone, Copy)]
 pub enum State {
     Going(Place),
     Bad(u32),

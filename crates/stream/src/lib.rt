@@ -10,14 +10,14 @@ ghost use Rattle.stream.specs.Writing.{outcome_of, Within, after_write, Flushed,
 use libc::{EAGAIN, EINTR, STDERR_FILENO, STDOUT_FILENO};
 
 // A line that is still read: how many of its bytes are held, or that there were too many.
-#[derive(Drop)]
+#[derive(Clone, Copy)]
 pub enum Held {
     Bytes(usize),
     Over,
 }
 
 // What was taken of a piece of the input: the line so far, the place after it, and whether a line feed ended it.
-#[derive(Drop)]
+#[derive(Clone, Copy)]
 struct Taken {
     pub held: Held,
     pub next: usize,
@@ -65,7 +65,7 @@ fn take_line(held: Held, piece: &[u8], from: usize, line: &mut [u8]) -> Taken
 }
 
 // What a read gave: so many bytes of the piece, the end of the input, or nothing, after a line on standard error.
-#[derive(Drop)]
+#[derive(Clone, Copy)]
 pub enum Got {
     Bytes(usize),
     End,
@@ -88,14 +88,14 @@ pub fn read_some(fd: i32, what: &[u8], piece: &mut [u8]) -> Got
 }
 
 // The output of a run: where its next byte goes, or that a write failed. Nothing is put and nothing is written after a failure, so what came out is a start of the answers.
-#[derive(Drop)]
+#[derive(Clone, Copy)]
 pub enum Output {
     At(usize),
     Closed,
 }
 
 // What one write came to: so many bytes were taken, it may be tried again, or it failed.
-#[derive(Drop)]
+#[derive(Clone, Copy)]
 enum Wrote {
     Took(usize),
     Nothing,
@@ -205,7 +205,7 @@ fn bounded(at: usize, out: &[u8]) -> usize
 }
 
 // An input that is read in pieces: the bytes of the last piece that are left, and whether the input has ended.
-#[derive(Drop)]
+#[derive(Clone, Copy)]
 pub struct Reader {
     pub from: usize,
     pub end: usize,
@@ -213,7 +213,7 @@ pub struct Reader {
 }
 
 // The next line of an input, that there is none, or that the input could not be read or nobody takes the answers any more.
-#[derive(Drop)]
+#[derive(Clone, Copy)]
 pub enum Line {
     Of(Held),
     End,
@@ -221,7 +221,7 @@ pub enum Line {
 }
 
 // A line, with the input and the output after it.
-#[derive(Drop)]
+#[derive(Clone, Copy)]
 pub struct Next {
     pub line: Line,
     pub reader: Reader,

@@ -27,7 +27,7 @@ use walk::WalkAnswer;
 
 // What the calls that read, judge or give a sheet tell.
 #[repr(C)]
-#[derive(Drop)]
+#[derive(Clone, Copy)]
 pub struct SheetTold {
     pub refusal: u32,
     pub row: u32,
@@ -36,7 +36,7 @@ pub struct SheetTold {
 
 // The bytes of a text that was written into a buffer.
 #[repr(C)]
-#[derive(Drop)]
+#[derive(Clone, Copy)]
 pub struct WrittenTold {
     pub refusal: u32,
     pub row: u32,
@@ -46,7 +46,7 @@ pub struct WrittenTold {
 
 // What a charge burns to, in mg.
 #[repr(C)]
-#[derive(Drop)]
+#[derive(Clone, Copy)]
 pub struct BurnTold {
     pub refusal: u32,
     pub row: u32,
@@ -60,7 +60,7 @@ pub struct BurnTold {
 
 // A gas heat or a content in mg times 0.00001 C.H.U./lb, or a specific content in 0.00001 C.H.U./lb.
 #[repr(C)]
-#[derive(Drop)]
+#[derive(Clone, Copy)]
 pub struct HeatTold {
     pub refusal: u32,
     pub row: u32,
@@ -70,7 +70,7 @@ pub struct HeatTold {
 
 // A number read from the air table.
 #[repr(C)]
-#[derive(Drop)]
+#[derive(Clone, Copy)]
 pub struct ReadingTold {
     pub refusal: u32,
     pub row: u32,
@@ -80,7 +80,7 @@ pub struct ReadingTold {
 
 // The temperature of a gas heat, with the rest in mg times 0.00001 C.H.U./lb.
 #[repr(C)]
-#[derive(Drop)]
+#[derive(Clone, Copy)]
 pub struct TemperatureTold {
     pub refusal: u32,
     pub row: u32,
@@ -91,7 +91,7 @@ pub struct TemperatureTold {
 
 // The temperature of a psi of air, with the rest in 0.0000001.
 #[repr(C)]
-#[derive(Drop)]
+#[derive(Clone, Copy)]
 pub struct PsiTold {
     pub refusal: u32,
     pub row: u32,
@@ -102,7 +102,7 @@ pub struct PsiTold {
 
 // A walk. `begun` is 1 where it got past its start: done where `refusal` is 0, else stopped by that refusal of a step.
 #[repr(C)]
-#[derive(Drop)]
+#[derive(Clone, Copy)]
 pub struct WalkTold {
     pub refusal: u32,
     pub row: u32,
@@ -117,7 +117,7 @@ pub struct WalkTold {
 
 // A station's three figures.
 #[repr(C)]
-#[derive(Drop)]
+#[derive(Clone, Copy)]
 pub struct StationTold {
     pub refusal: u32,
     pub row: u32,
@@ -129,7 +129,7 @@ pub struct StationTold {
 
 // A mark: `counts` is 1 where the answer counts.
 #[repr(C)]
-#[derive(Drop)]
+#[derive(Clone, Copy)]
 pub struct MarkTold {
     pub refusal: u32,
     pub row: u32,

@@ -10,7 +10,7 @@ use sheet_text::Place;
 
 // Where a reading stands. At stage 0 it goes on from a place, 1 is refused with 2 at the row, 2 is accepted.
 #[repr(C)]
-#[derive(Drop)]
+#[derive(Clone, Copy)]
 pub struct ReadingState {
     pub stage: u32,
     pub row: u32,
@@ -23,7 +23,7 @@ pub struct ReadingState {
 
 // What a piece or the close tells, with the reading after it: `more` is 1 where more is expected.
 #[repr(C)]
-#[derive(Drop)]
+#[derive(Clone, Copy)]
 pub struct PieceTold {
     pub refusal: u32,
     pub row: u32,

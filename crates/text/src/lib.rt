@@ -11,7 +11,7 @@ ghost use Rattle.text.specs.Put.{Put};
 ghost use Rattle.text.specs.Puts.{Stands};
 
 // What the digits of a text say so far.
-#[derive(Drop)]
+#[derive(Clone, Copy)]
 enum Digits {
     Empty,
     Value(u64),
@@ -19,7 +19,7 @@ enum Digits {
 }
 
 // A whole number of 64 bits, or something else.
-#[derive(Drop)]
+#[derive(Clone, Copy)]
 pub enum Whole {
     Is(i64),
     Not,

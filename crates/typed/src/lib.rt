@@ -11,7 +11,7 @@ ghost use Rattle.typed.specs.Typed.{takes as Typed·takes, first_part, next_whol
 const MOST: u64 = 999_999_999_999_999;
 
 // A decimal number so far: its digits as one number, and how many of them stand after the point.
-#[derive(Drop)]
+#[derive(Clone, Copy)]
 enum Part {
     Start,
     Whole(u64),
@@ -21,14 +21,14 @@ enum Part {
 }
 
 // The number that a text is, if it is one.
-#[derive(Drop)]
+#[derive(Clone, Copy)]
 pub enum Number {
     Is(f64),
     Not,
 }
 
 // The bits that hexadecimal digits say so far.
-#[derive(Drop)]
+#[derive(Clone, Copy)]
 enum Hex {
     Value(u64),
     Bad,

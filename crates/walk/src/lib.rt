@@ -17,7 +17,7 @@ use refusal::Refusal;
 use sheet::SheetAnswer;
 
 // A step: the fuel that it adds, calorific value in hundredths of C.H.U./lb, plain heat q.
-#[derive(Drop)]
+#[derive(Clone, Copy)]
 pub struct Step {
     pub fuel: Fuel,
     pub value: i64,
@@ -26,7 +26,7 @@ pub struct Step {
 
 // A walk done to its end: the number of steps, the last charge and temperature. One that a step stopped: the number of steps done, the refusal's number, the charge
 // and temperature before that step. Or one that was refused at its start.
-#[derive(Drop)]
+#[derive(Clone, Copy)]
 pub enum WalkAnswer {
     Done(u32, Charge, Millikelvin),
     Stopped(u32, u32, Charge, Millikelvin),

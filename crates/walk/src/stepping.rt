@@ -18,7 +18,7 @@ use burning::fuelling::Fuelled;
 use gas::{Heat, TemperatureAnswer};
 
 // Where a walk stands: its gas and temperature, with the gas heat there and at 15 °C, so that no step works either out again.
-#[derive(Drop)]
+#[derive(Clone, Copy)]
 pub(crate) struct Standing {
     pub gas: Gas,
     pub t: Millikelvin,
@@ -27,7 +27,7 @@ pub(crate) struct Standing {
 }
 
 // What a step asks: the temperature of the new gas at which its heat is the target; with the new gas's heat at 15 °C.
-#[derive(Drop)]
+#[derive(Clone, Copy)]
 pub(crate) struct Asking {
     pub gas: Gas,
     pub target: Heat,
@@ -35,14 +35,14 @@ pub(crate) struct Asking {
 }
 
 // What a step asks, or the number of its refusal.
-#[derive(Drop)]
+#[derive(Clone, Copy)]
 pub(crate) enum Ask {
     For(Asking),
     Refused(u32),
 }
 
 // The state after a step and its rest, or the number of its refusal.
-#[derive(Drop)]
+#[derive(Clone, Copy)]
 pub(crate) enum Stepped {
     Done(Standing, Heat),
     Refused(u32),

@@ -1,0 +1,16 @@
+-- `content`: a sheet that is not accepted is told first (`refused_first`); with an accepted one `heat_judged` tells the rest (`good_accepted`).
+use mathlib.Core.List.{◌++◌}
+use Rattle.sheet.specs.AnswersLaws.{good_accepted, refused_first}
+use Rattle.burning.specs.Answers.{charge_lines}
+use Rattle.gas.specs.Answers.{temperature_lines}
+use Rattle.burning.specs.Burning.{document01}
+use Rattle.gas.proofs.content.Goals as goal
+
+pub heat_judged-requires : goal.heat_judged-requires
+heat_judged-requires c = (good_accepted _ c.judge.ensures c.in-Good.is, c.heat_column-air.ensures)
+
+pub returns-in-Good : goal.returns-in-Good
+returns-in-Good c = c.heat_judged.ensures
+
+pub returns-in-Refused : goal.returns-in-Refused
+returns-in-Refused c = refused_first c.args.sheet.now (charge_lines document01 c.args.charge ++ temperature_lines c.args.t.0) _ c.judge.ensures c.in-Refused.is

@@ -1,0 +1,60 @@
+-- `station_judged`: past the sheet the charge and the temperature are tested, and past the refusals the numbers are those of the gas. Assumes nothing.
+use borrow.Author.Rules.{rules}
+use mathlib.Core.Path.{◌≡◌, refl, sym, ap, ◌∙◌}
+use native.Mathlib.Omega.{arith}
+use mir.Syntax.{w64}
+use mir.Val.{SFits}
+use Rattle.signed.specs.Zed.{back}
+use Rattle.refusal.specs.Refusals.{gives, first}
+use Rattle.refusal.specs.OrdersLaws.{told_through, stopped_first}
+use Rattle.burning.specs.Burning.{document01, gas_of}
+use Rattle.burning.specs.Answers.{paper_gas}
+use Rattle.gas.specs.Answers.{heat_order}
+use Rattle.gas.specs.AnswersLaws.{Readable, readable_of, past_heat}
+use Rattle.gas.specs.BoundsLaws.{mass_most}
+use Rattle.marking.specs.Figures.{numbers_of}
+use Rattle.marking.proofs.inner.station_judged.Goals as goal
+
+pub specific_at-specific-requires : goal.specific_at-specific-requires
+specific_at-specific-requires c = let told : paper_gas c.admit_at.result ≡ first (heat_order document01 c.args.charge c.args.t.0 c.args.sheet.now) (gas_of c.args.charge) =
+    past_heat c.requires.0 document01 c.args.charge c.args.t.0 c.admit_at.ensures in
+    let given_gas : gives c.in-Burning.gas ≡ first (heat_order document01 c.args.charge c.args.t.0 c.args.sheet.now) (gas_of c.args.charge) =
+    ap paper_gas (sym c.in-Burning.is) ∙ told in
+    let readable : Readable document01 c.args.t.0 c.args.sheet.now c.in-Burning.gas =
+    readable_of document01 c.args.charge c.args.t.0 c.args.sheet.now given_gas in
+    let h = readable in (h.burns, h.accepted, c.requires.1, h.covered)
+
+pub total_mass-requires : goal.total_mass-requires
+total_mass-requires c = let told : paper_gas c.admit_at.result ≡ first (heat_order document01 c.args.charge c.args.t.0 c.args.sheet.now) (gas_of c.args.charge) =
+    past_heat c.requires.0 document01 c.args.charge c.args.t.0 c.admit_at.ensures in
+    let given_gas : gives c.in-Burning.gas ≡ first (heat_order document01 c.args.charge c.args.t.0 c.args.sheet.now) (gas_of c.args.charge) =
+    ap paper_gas (sym c.in-Burning.is) ∙ told in
+    let readable : Readable document01 c.args.t.0 c.args.sheet.now c.in-Burning.gas =
+    readable_of document01 c.args.charge c.args.t.0 c.args.sheet.now given_gas in
+    readable.burns.limits
+
+pub of_u64-mass-requires : goal.of_u64-mass-requires
+of_u64-mass-requires c = let told : paper_gas c.admit_at.result ≡ first (heat_order document01 c.args.charge c.args.t.0 c.args.sheet.now) (gas_of c.args.charge) =
+    past_heat c.requires.0 document01 c.args.charge c.args.t.0 c.admit_at.ensures in
+    let given_gas : gives c.in-Burning.gas ≡ first (heat_order document01 c.args.charge c.args.t.0 c.args.sheet.now) (gas_of c.args.charge) =
+    ap paper_gas (sym c.in-Burning.is) ∙ told in
+    let readable : Readable document01 c.args.t.0 c.args.sheet.now c.in-Burning.gas =
+    readable_of document01 c.args.charge c.args.t.0 c.args.sheet.now given_gas in
+    omega (arith, c.total_mass.ensures, mass_most readable.burns)
+
+pub returns-in-Burning : goal.returns-in-Burning
+returns-in-Burning c = let told : paper_gas c.admit_at.result ≡ first (heat_order document01 c.args.charge c.args.t.0 c.args.sheet.now) (gas_of c.args.charge) =
+    past_heat c.requires.0 document01 c.args.charge c.args.t.0 c.admit_at.ensures in
+    let given_gas : gives c.in-Burning.gas ≡ first (heat_order document01 c.args.charge c.args.t.0 c.args.sheet.now) (gas_of c.args.charge) =
+    ap paper_gas (sym c.in-Burning.is) ∙ told in
+    let t : SFits w64 c.args.t.0 = search rules in
+    let f : SFits w64 c.specific_at-specific.result = search rules in
+    let m : SFits w64 c.of_u64-mass.result = search rules in
+    told_through (heat_order document01 c.args.charge c.args.t.0 c.args.sheet.now) (gas_of c.args.charge)
+    (numbers_of c.args.sheet.now c.args.t.0) given_gas
+    (rw (back t, back f ∙ c.specific_at-specific.ensures, back m ∙ c.of_u64-mass.ensures, c.total_mass.ensures) refl)
+
+pub returns-in-Refused : goal.returns-in-Refused
+returns-in-Refused c = let told : paper_gas c.admit_at.result ≡ first (heat_order document01 c.args.charge c.args.t.0 c.args.sheet.now) (gas_of c.args.charge) =
+    past_heat c.requires.0 document01 c.args.charge c.args.t.0 c.admit_at.ensures in
+    stopped_first (heat_order document01 c.args.charge c.args.t.0 c.args.sheet.now) [] _ _ c.in-Refused.r (ap paper_gas (sym c.in-Refused.is) ∙ told)
