@@ -3,7 +3,7 @@ use Rattle.std.proofs.Common.{ltb-true, sym, ◌∙◌, true≢false, ⊎_elim, 
 use Rattle.std.specs.Prelude.{◌≡◌, refl, true, List, [], ◌∷◌, ◌++◌, ◌⊎◌, ℕ, ◌/◌, ◌<◌, ltb, ℤ, pos, Float, length}
 use Rattle.std.proofs.Math.Path.{ap}
 use Rattle.signed.specs.Zed.{outside}
-use Rattle.refusal.specs.Refusals.{Told, gives, Line, ◌when◌, ◌at-place◌when◌, line_number, first, First, here, after, Clear}
+use Rattle.refusal.specs.Refusals.{Told, gives, Line, ◌when◌, ◌at_place◌when◌, line_number, first, First, here, after, Clear}
 use Rattle.refusal.specs.BoolLaws.{by_bool}
 use Rattle.refusal.specs.RefusalsLaws.{first_or_clear, refusal_given, values_given}
 use Rattle.rows.specs.Limits.{first_kelvin, last_kelvin}

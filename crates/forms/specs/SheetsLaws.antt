@@ -2,7 +2,7 @@
 -- (`written_as_read`); and a carriage return that decides is the byte after which no good sheet can follow (`return_decides`). Assumes nothing.
 use Rattle.std.specs.Prelude.{List, [], ◌∷◌, ◌++◌, Bool, true, false, ◌≡◌, refl, ℕ, length}
 use Rattle.std.proofs.Common.{sym, ◌∙◌, subst, arith}
-use Rattle.refusal.specs.Refusals.{gives, ◌when◌, ◌at-place◌when◌, first}
+use Rattle.refusal.specs.Refusals.{gives, ◌when◌, ◌at_place◌when◌, first}
 use Rattle.sheet_text.specs.Limits.{sheet_numbers}
 use Rattle.sheet.specs.Sheet.{not_long}
 use Rattle.sheet.specs.Answers.{paper_sheet, Form, sheet_of, no_sheet, numbers_of, read_told, judge_told}

@@ -23,10 +23,10 @@ number_of (At n k) = n
 
 -- a line of an order: a refusal when its condition holds
 infix 70 ◌when◌
-infix 70 ◌at-place◌when◌
+infix 70 ◌at_place◌when◌
 pub data Line : Type 0 where
   ◌when◌ : ℕ → Bool → Line
-  ◌at-place◌when◌ : ℕ → ℕ → Bool → Line
+  ◌at_place◌when◌ : ℕ → ℕ → Bool → Line
 
 -- the refusal of a line, what a call tells by it, its number, and its condition
 abbrev pub refusal_of : Line → Refusal

@@ -1,7 +1,7 @@
 -- What the calls on a sheet tell (document 01, "The gas sheet" and refusals 1 to 3): the reader of a text, which judges its form only and fills the lent list,
 -- and the judge of a list.
 use Rattle.std.specs.Prelude.{◌≡◌, Bool, true, false, List, [], ◌∷◌, ℕ, ltb}
-use Rattle.refusal.specs.Refusals.{Told, gives, refused, Line, ◌when◌, ◌at-place◌when◌, first}
+use Rattle.refusal.specs.Refusals.{Told, gives, refused, Line, ◌when◌, ◌at_place◌when◌, first}
 use Rattle.rows.specs.Limits.{table_rows}
 use Rattle.sheet.specs.declared.SheetAnswer.{SheetAnswer}
 use Rattle.sheet.specs.declared.SheetAnswer.TheVariants.{Good, Refused}

@@ -2,7 +2,7 @@
 -- accepted sheet. Assumes nothing.
 use Rattle.std.proofs.Common.{eqb-true, ltb-false, lt-ltb, le-ltb, eq-eqb, ne_eqb, sym, ap, ◌∙◌, arith}
 use Rattle.std.specs.Prelude.{◌≡◌, refl, Bool, true, false, not, List, [], ◌∷◌, ◌++◌, ℕ, ◌≤◌, ◌<◌, ltb, eqb, length}
-use Rattle.refusal.specs.Refusals.{gives, refuses, refuses_at, refused, Line, ◌when◌, ◌at-place◌when◌, first}
+use Rattle.refusal.specs.Refusals.{gives, refuses, refuses_at, refused, Line, ◌when◌, ◌at_place◌when◌, first}
 use Rattle.refusal.specs.declared.Refusal.{Refusal}
 use Rattle.refusal.specs.OrdersLaws.{stopped_first}
 use Rattle.rows.specs.Limits.{table_rows}

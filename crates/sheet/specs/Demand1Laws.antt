@@ -1,6 +1,6 @@
 -- Demand 1 for each entry on a sheet, both ways: `demand-1-NAME`, of every answer that meets the promise of NAME. Assumes nothing.
 use Rattle.std.specs.Prelude.{◌≡◌, List, [], ◌∷◌, ℕ}
-use Rattle.refusal.specs.Refusals.{◌when◌, ◌at-place◌when◌, Demand1}
+use Rattle.refusal.specs.Refusals.{◌when◌, ◌at_place◌when◌, Demand1}
 use Rattle.refusal.specs.RefusalsLaws.{demand_1}
 use Rattle.sheet_text.specs.Text.{text_length}
 use Rattle.sheet.specs.declared.SheetAnswer.{SheetAnswer}

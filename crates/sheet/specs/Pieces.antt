@@ -5,7 +5,7 @@
 use Rattle.std.specs.Prelude.{◌≡◌, Bool, true, false, cond, List, [], ◌∷◌, ◌++◌, ℕ, eqb}
 use Rattle.text.specs.Fold.{run}
 use Rattle.rows.specs.Limits.{table_rows}
-use Rattle.refusal.specs.Refusals.{Told, gives, refused, Line, ◌when◌, ◌at-place◌when◌, first}
+use Rattle.refusal.specs.Refusals.{Told, gives, refused, Line, ◌when◌, ◌at_place◌when◌, first}
 use Rattle.refusal.specs.declared.Refusal.TheVariants.{Plain, At}
 use Rattle.sheet_text.specs.Text.{RowsIn}
 use Rattle.sheet_text.specs.Machine.{start, step_place, stored_place}

@@ -6,7 +6,7 @@ use Rattle.rows.specs.Limits.{table_rows}
 use Rattle.text.specs.Fold.{run}
 use Rattle.text.specs.FoldLaws.{run_append}
 use Rattle.text.specs.Wholes.{is_digit}
-use Rattle.refusal.specs.Refusals.{first, ◌when◌, ◌at-place◌when◌}
+use Rattle.refusal.specs.Refusals.{first, ◌when◌, ◌at_place◌when◌}
 use Rattle.refusal.specs.declared.Refusal.TheVariants.{Plain, At}
 use Rattle.sheet_text.specs.Limits.{sheet_numbers}
 use Rattle.sheet_text.specs.Text.{sheet_text, Numbers, Begins, feeds, FirstBad, RowsIn}

@@ -14,26 +14,26 @@ use Rattle.marking.proofs.mark.Goals as goal
 
 pub returns-then-not-inside : goal.returns-then-not-inside
 returns-then-not-inside c = sym
-    (rw (key_outside c.args.key c.args.window (sym (in_plain (neg_ℤ (pos 1000000000000)) (pos 1000000000000) c.ranges.key c.inside.ensures) ∙ not-true _ c.if-not-inside.true)) refl)
+    (rw (key_outside c.args.key c.args.window (sym (in_plain (neg_ℤ (pos 1000000000000)) (pos 1000000000000) c.ranges.key c.inside.ensures) ∙ c.if-not-inside.true)) refl)
 
 pub returns-then-not-inside-2 : goal.returns-then-not-inside-2
-returns-then-not-inside-2 c = sym (rw (window_outside c.args.key c.args.window (sym (in_plain (pos 0) (pos 100000) c.ranges.window c.inside-2.ensures) ∙ not-true _ c.if-not-inside-2.true)) refl)
+returns-then-not-inside-2 c = sym (rw (window_outside c.args.key c.args.window (sym (in_plain (pos 0) (pos 100000) c.ranges.window c.inside-2.ensures) ∙ c.if-not-inside-2.true)) refl)
 
 pub mark_number-requires : goal.mark_number-requires
 mark_number-requires c = let number_is : scaled_of c.args.typed ≡ Number c.in-Number.scale c.in-Number.x =
     sym c.at_scale.ensures ∙ c.in-Number.is in
     let in_range : out_of_range c.args.key c.args.window ≡ false =
     both_inside c.args.key c.args.window
-    (sym (in_plain (neg_ℤ (pos 1000000000000)) (pos 1000000000000) c.ranges.key c.inside.ensures) ∙ not-false _ c.if-not-inside.false)
-    (sym (in_plain (pos 0) (pos 100000) c.ranges.window c.inside-2.ensures) ∙ not-false _ c.if-not-inside-2.false) in
+    (sym (in_plain (neg_ℤ (pos 1000000000000)) (pos 1000000000000) c.ranges.key c.inside.ensures) ∙ c.if-not-inside.false)
+    (sym (in_plain (pos 0) (pos 100000) c.ranges.window c.inside-2.ensures) ∙ c.if-not-inside-2.false) in
     let b = subst Sound number_is (sound c.args.typed) in
     (b.0, (b.1, rw (back c.ranges.key, back c.ranges.window) in_range))
 
 pub returns-in-Number : goal.returns-in-Number
 returns-in-Number c = let in_range : out_of_range c.args.key c.args.window ≡ false =
     both_inside c.args.key c.args.window
-    (sym (in_plain (neg_ℤ (pos 1000000000000)) (pos 1000000000000) c.ranges.key c.inside.ensures) ∙ not-false _ c.if-not-inside.false)
-    (sym (in_plain (pos 0) (pos 100000) c.ranges.window c.inside-2.ensures) ∙ not-false _ c.if-not-inside-2.false) in
+    (sym (in_plain (neg_ℤ (pos 1000000000000)) (pos 1000000000000) c.ranges.key c.inside.ensures) ∙ c.if-not-inside.false)
+    (sym (in_plain (pos 0) (pos 100000) c.ranges.window c.inside-2.ensures) ∙ c.if-not-inside-2.false) in
     let number_is : scaled_of c.args.typed ≡ Number c.in-Number.scale c.in-Number.x =
     sym c.at_scale.ensures ∙ c.in-Number.is in
     let a = c.args in 
@@ -43,8 +43,8 @@ returns-in-Number c = let in_range : out_of_range c.args.key c.args.window ≡ f
 pub returns-in-Nothing : goal.returns-in-Nothing
 returns-in-Nothing c = let in_range : out_of_range c.args.key c.args.window ≡ false =
     both_inside c.args.key c.args.window
-    (sym (in_plain (neg_ℤ (pos 1000000000000)) (pos 1000000000000) c.ranges.key c.inside.ensures) ∙ not-false _ c.if-not-inside.false)
-    (sym (in_plain (pos 0) (pos 100000) c.ranges.window c.inside-2.ensures) ∙ not-false _ c.if-not-inside-2.false) in
+    (sym (in_plain (neg_ℤ (pos 1000000000000)) (pos 1000000000000) c.ranges.key c.inside.ensures) ∙ c.if-not-inside.false)
+    (sym (in_plain (pos 0) (pos 100000) c.ranges.window c.inside-2.ensures) ∙ c.if-not-inside-2.false) in
     let a = c.args in 
     sym
     (by_scale a.typed a.key a.window in_range

@@ -23,7 +23,7 @@ overflow_add-sum c = let n = tested_nat 0 document01.most_atoms c.ranges.more (i
 pub returns-then-sum-gt-MOST_ATOMS : goal.returns-then-sum-gt-MOST_ATOMS
 returns-then-sum-gt-MOST_ATOMS c = let above : dn c.args.more ≡ 0 =
     omega
-    (zed, apart c.args.more, (in_range (pos 0) (pos document01.most_atoms) c.args.more (sym (in_plain _ _ c.ranges.more c.inside.ensures) ∙ not-false _ c.if-not-inside.false)).least) in
+    (zed, apart c.args.more, (in_range (pos 0) (pos document01.most_atoms) c.args.more (sym (in_plain _ _ c.ranges.more c.inside.ensures) ∙ c.if-not-inside.false)).least) in
     let n =
     tested_nat 0 document01.most_atoms c.ranges.more (in_plain _ _ c.ranges.more c.inside.ensures)
     c.if-not-inside.false c.to_u64.ensures in
@@ -32,7 +32,7 @@ returns-then-sum-gt-MOST_ATOMS c = let above : dn c.args.more ≡ 0 =
 pub returns : goal.returns
 returns c = let above : dn c.args.more ≡ 0 =
     omega
-    (zed, apart c.args.more, (in_range (pos 0) (pos document01.most_atoms) c.args.more (sym (in_plain _ _ c.ranges.more c.inside.ensures) ∙ not-false _ c.if-not-inside.false)).least) in
+    (zed, apart c.args.more, (in_range (pos 0) (pos document01.most_atoms) c.args.more (sym (in_plain _ _ c.ranges.more c.inside.ensures) ∙ c.if-not-inside.false)).least) in
     let n =
     tested_nat 0 document01.most_atoms c.ranges.more (in_plain _ _ c.ranges.more c.inside.ensures)
     c.if-not-inside.false c.to_u64.ensures in

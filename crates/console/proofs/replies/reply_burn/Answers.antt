@@ -14,11 +14,11 @@ use Rattle.console.proofs.replies.reply_burn.Goals as goal
 
 pub returns-then-not-read_exactly : goal.returns-then-not-read_exactly
 returns-then-not-read_exactly c = let fs = fields_from c.args.line.now c.args.from in
-    rw (← not_exactly (burnt_text (burn_told document01 (charge_in (values_of fs)))) misfit_text fs charge_numbers refl c.read_exactly.ensures.value (not-true _ c.if-not-read_exactly.true))
+    rw (← not_exactly (burnt_text (burn_told document01 (charge_in (values_of fs)))) misfit_text fs charge_numbers refl c.read_exactly.ensures.value c.if-not-read_exactly.true)
     c.put_misfit.ensures
 
 pub returns : goal.returns
 returns c = rw
     (← exactly (λ (l : List ℤ). burnt_text (burn_told document01 (charge_in l))) misfit_text (fields_from c.args.line.now c.args.from) (replicate charge_numbers (pos 0))
-    c.read_exactly.new.list charge_numbers refl c.read_exactly.ensures.value (not-false _ c.if-not-read_exactly.false) refl c.read_exactly.ensures.stored)
+    c.read_exactly.new.list charge_numbers refl c.read_exactly.ensures.value c.if-not-read_exactly.false refl c.read_exactly.ensures.stored)
     (rw (c.burn.ensures, c.charge_in.ensures) c c.put_burnt.ensures)

@@ -21,17 +21,17 @@ use Rattle.console.proofs.requests.gas_ask_of.Goals as goal
 pub returns-then-not-read_exactly : goal.returns-then-not-read_exactly
 returns-then-not-read_exactly c = let fs = fields_from c.args.line.now c.args.from in
     not_exactly (ask_of (charge_in (values_of fs)) (get_or (values_of fs) charge_numbers (pos 0)) c.args.verdict) Misfit fs start_numbers refl
-    c.read_exactly.ensures.value (not-true _ c.if-not-read_exactly.true)
+    c.read_exactly.ensures.value c.if-not-read_exactly.true
 
 pub returns-in-Good : goal.returns-in-Good
 returns-in-Good c = let asked : (v : SheetAnswer) → let l = c.read_exactly.new.list in ask_of (charge_in l) (get_or l charge_numbers (pos 0)) v ≡ gas_ask_of (fields_from c.args.line.now c.args.from) v =
     λ v. exactly (λ (l : List ℤ). ask_of (charge_in l) (get_or l charge_numbers (pos 0)) v) Misfit (fields_from c.args.line.now c.args.from)
-    (replicate start_numbers (pos 0)) c.read_exactly.new.list start_numbers refl c.read_exactly.ensures.value (not-false _ c.if-not-read_exactly.false) refl c.read_exactly.ensures.stored in
+    (replicate start_numbers (pos 0)) c.read_exactly.new.list start_numbers refl c.read_exactly.ensures.value c.if-not-read_exactly.false refl c.read_exactly.ensures.stored in
     let f : SFits w64 (get_or c.read_exactly.new.list charge_numbers (pos 0)) = search rules in
     rw (c.in-Good.is, c.charge_in.ensures, back f) (asked Good)
 
 pub returns-in-Refused : goal.returns-in-Refused
 returns-in-Refused c = let asked : (v : SheetAnswer) → let l = c.read_exactly.new.list in ask_of (charge_in l) (get_or l charge_numbers (pos 0)) v ≡ gas_ask_of (fields_from c.args.line.now c.args.from) v =
     λ v. exactly (λ (l : List ℤ). ask_of (charge_in l) (get_or l charge_numbers (pos 0)) v) Misfit (fields_from c.args.line.now c.args.from)
-    (replicate start_numbers (pos 0)) c.read_exactly.new.list start_numbers refl c.read_exactly.ensures.value (not-false _ c.if-not-read_exactly.false) refl c.read_exactly.ensures.stored in
+    (replicate start_numbers (pos 0)) c.read_exactly.new.list start_numbers refl c.read_exactly.ensures.value c.if-not-read_exactly.false refl c.read_exactly.ensures.stored in
     rw c.in-Refused.is (asked (SheetRefused c.in-Refused.refusal))

@@ -27,7 +27,7 @@ returns-then-not-lean c = let grown : (wrong_fuel document01 c.args.st.gas c.arg
     let lean_is : {t : Bool} → c.lean.result ≡ t → lean document01 (with_fuel c.args.st.gas c.args.p.fuel) ≡ t =
     λ e. rw grown.1 (sym c.lean.ensures ∙ e) in
     asks_5 c.args.sheet.now c.args.st c.args.p grown.0 (sym c.wrong_heat.ensures ∙ c.if-wrong_heat.false)
-    (lean_is (not-true _ c.if-not-lean.true))
+    (lean_is c.if-not-lean.true)
 
 pub heat_at-fifteen-requires : goal.heat_at-fifteen-requires
 unfolding in_z
@@ -36,7 +36,7 @@ heat_at-fifteen-requires c = let grown : (wrong_fuel document01 c.args.st.gas c.
     let burns : Burns document01 c.in-To.gas =
     record {
       limits = rw (← grown.1) (limits_with document01 c.args.st.gas c.args.p.fuel grown.0);
-      is_lean = sym c.lean.ensures ∙ not-false _ c.if-not-lean.false;
+      is_lean = sym c.lean.ensures ∙ c.if-not-lean.false;
     } in
     (burns, c.requires.1, c.requires.2, refl)
 
@@ -53,10 +53,10 @@ target-target-requires c = let grown : (wrong_fuel document01 c.args.st.gas c.ar
     let burns : Burns document01 c.in-To.gas =
     record {
       limits = rw (← grown.1) (limits_with document01 c.args.st.gas c.args.p.fuel grown.0);
-      is_lean = sym c.lean.ensures ∙ not-false _ c.if-not-lean.false;
+      is_lean = sym c.lean.ensures ∙ c.if-not-lean.false;
     } in
     in_reach c.args.sheet.now c.args.st c.args.p c.requires.0 grown.0 (sym c.wrong_heat.ensures ∙ c.if-wrong_heat.false)
-    (lean_is (not-false _ c.if-not-lean.false)) _ grown.1 burns c.requires.1
+    (lean_is c.if-not-lean.false) _ grown.1 burns c.requires.1
     _ _ c.step_heat.ensures c.heat_at-fifteen.ensures
 
 pub returns-in-Beyond : goal.returns-in-Beyond
@@ -71,7 +71,7 @@ returns-else-not-lean c = let grown : (wrong_fuel document01 c.args.st.gas c.arg
     let burns : Burns document01 c.in-To.gas =
     record {
       limits = rw (← grown.1) (limits_with document01 c.args.st.gas c.args.p.fuel grown.0);
-      is_lean = sym c.lean.ensures ∙ not-false _ c.if-not-lean.false;
+      is_lean = sym c.lean.ensures ∙ c.if-not-lean.false;
     } in
     asks_for c.args.sheet.now c.args.st c.args.p c.requires.0 grown.0 (sym c.wrong_heat.ensures ∙ c.if-wrong_heat.false)
-    (lean_is (not-false _ c.if-not-lean.false)) _ grown.1 burns _ _ _ c.step_heat.ensures c.heat_at-fifteen.ensures c.target-target.ensures
+    (lean_is c.if-not-lean.false) _ grown.1 burns _ _ _ c.step_heat.ensures c.heat_at-fifteen.ensures c.target-target.ensures
