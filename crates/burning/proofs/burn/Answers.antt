@@ -1,4 +1,5 @@
 -- `burn`: what `admit` tells of the charge goes through to the products: its refusal is told as it is, else the gas burns (`told_through`, `stopped`).
+use mathlib.Core.List.{[]}
 use mathlib.Core.Path.{◌≡◌, sym, ap, ◌∙◌}
 use Rattle.refusal.specs.Refusals.{gives, first}
 use Rattle.burning.specs.Burning.{document01, gas_of, products}

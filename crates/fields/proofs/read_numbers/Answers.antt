@@ -1,4 +1,5 @@
 -- `read_numbers`: each field in turn is counted and kept, up to the first that is no number (`count_bad`, `leading_bad`) or the line's end (`leading_all`).
+use mathlib.Core.List.{[]}
 use Rattle.fields.specs.declared.Numbers.TheVariants.{Count}
 use Rattle.text.specs.declared.Whole.TheVariants.{Is}
 use Rattle.fields.specs.FieldsLaws.{span_from, fields_none, count_next_lem, count_bad, leading_next_lem, leading_bad, leading_all}

@@ -1,4 +1,5 @@
 -- `mark_number`: what is no number is refused, and a number counts by its exact value (proofs/Spans.antt, proofs/Patterns.antt). Assumes nothing.
+use mathlib.Core.List.{[]}
 use mathlib.Core.Path.{◌≡◌, refl, sym, ap, ◌∙◌}
 use mathlib.Core.Bool.{not}
 use mathlib.Core.List.{◌∷◌}

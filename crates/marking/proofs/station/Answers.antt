@@ -1,4 +1,5 @@
 -- `station`: the sheet is judged first; past it the whole numbers are small enough to be figures. Assumes nothing.
+use mathlib.Core.List.{[]}
 use mathlib.Core.Path.{◌≡◌, refl, sym, ap, ◌∙◌}
 use mathlib.Core.List.{◌++◌}
 use native.Mathlib.Omega.{arith}

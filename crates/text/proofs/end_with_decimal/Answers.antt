@@ -1,4 +1,5 @@
 -- `end_with_decimal`: the last digit, then before it those of a tenth of the number, down to one digit (`last_digit`, `one_digit`).
+use mathlib.Core.List.{[]}
 use native.Mathlib.Omega.{arith}
 use Rattle.text.specs.Decimal.{decimal}
 use Rattle.text.specs.DecimalLaws.{one_digit, last_digit}

@@ -1,4 +1,5 @@
 -- `put_return_note`: nothing of a sheet that is good, or where no carriage return decided; else the row's note.
+use mathlib.Core.List.{[]}
 use mathlib.Core.List.{List}
 use Prim.Native.Nat.{ℕ}
 use native.Mathlib.Omega.{arith}

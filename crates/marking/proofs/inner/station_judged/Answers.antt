@@ -1,4 +1,5 @@
 -- `station_judged`: past the sheet the charge and the temperature are tested, and past the refusals the numbers are those of the gas. Assumes nothing.
+use mathlib.Core.List.{[]}
 use borrow.Author.Rules.{rules}
 use mathlib.Core.Path.{◌≡◌, refl, sym, ap, ◌∙◌}
 use native.Mathlib.Omega.{arith}
