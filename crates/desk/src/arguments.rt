@@ -2,26 +2,57 @@
 ghost use Rattle.std.specs.Prelude.{◌≡◌, ◌≤◌, map, length};
 ghost use Rattle.desk.specs.Names.{shown_byte};
 
+use crate::buffers;
 use forms::arguments;
 use forms::arguments::{Form, Words};
+use std::env::FillError;
+use std::io::Error;
+use std::rt::{Env, Files};
+use std::{fs, io, str};
+
+// the system's numbers of the errors that a name can have: it is too long, or it is no text
+const TOO_LONG: i32 = 36;
+
+const NO_TEXT: i32 = 84;
 
 // The words with the one that an argument is. One that is too long to be had is no word of a form.
-fn see(words: Words, i: usize) -> Words {
-    let mut text = io::buffer();
-    let n = os::arg(i, &mut text);
-    if os::errno() != 0 {
-        return arguments::with_word(words, i, b"");
+fn see<R: Env>(rt: &R, words: Words, i: usize) -> Words {
+    let mut text = buffers::buffer();
+    match rt.arg(i, &mut text) {
+        Ok(n) => arguments::with_word(words, i, &text[..n]),
+        Err(_) => arguments::with_word(words, i, b""),
     }
-    arguments::with_word(words, i, &text[..n])
+}
+
+// Whether there is no argument i.
+fn missing<R: Env>(rt: &R, i: usize) -> bool {
+    let mut text = [0u8; 1];
+    match rt.arg(i, &mut text) {
+        Ok(_) => false,
+        Err(FillError::TooLong) => false,
+        Err(FillError::NotPresent) => true,
+    }
+}
+
+// How many arguments there are, the program's name among them.
+fn count<R: Env>(rt: &R) -> usize {
+    let mut n = 0;
+    while n < usize::MAX {
+        if missing(rt, n) {
+            return n;
+        }
+        n += 1;
+    }
+    n
 }
 
 // The form of the arguments.
-pub(crate) fn read() -> Form {
-    let count = os::arg_count();
+pub(crate) fn read<R: Env>(rt: &R) -> Form {
+    let count = count(rt);
     let mut words = arguments::none();
     let mut i = 1;
     while i < count {
-        words = see(words, i);
+        words = see(rt, words, i);
         i += 1;
     }
     arguments::form_of(count, words)
@@ -49,25 +80,46 @@ fn hide(name: &mut [u8])
 }
 
 // Puts the name of the file that an argument is into the buffer, as a line on standard error shows it. Answers its length.
-pub(crate) fn show(i: usize, name: &mut [u8]) -> usize
+pub(crate) fn show<R: Env>(rt: &R, i: usize, name: &mut [u8]) -> usize
     ensures { result ≤ length name.new }
 {
-    let n = os::arg(i, name);
+    let n = match rt.arg(i, name) {
+        Ok(n) => n,
+        Err(_) => 0,
+    };
     hide(name);
     n
 }
 
-// Opens the file that an argument names. Answers its descriptor, or -1 after a line on standard error that shows the name.
-pub(crate) fn open(i: usize, name: &[u8]) -> i32 {
-    let mut path = io::buffer();
-    let n = os::arg(i, &mut path);
-    if os::errno() != 0 {
-        os::fail(b"the name of a file");
-        return -1;
+// Opens the file of a name. One that is no text in UTF-8 names no file that std can open.
+fn open_named<R: Files>(rt: &R, path: &[u8]) -> io::Result<R::File> {
+    match str::from_utf8(path) {
+        Ok(text) => fs::open(rt, text),
+        Err(_) => Err(Error::from_raw_os_error(NO_TEXT)),
     }
-    let fd = os::open_read(&path[..n]);
-    if fd < 0 {
-        os::fail(name);
+}
+
+// Opens the file that an argument names. Answers the open file, or none after a line on standard error that shows the name.
+pub(crate) fn open<R: Files + Env, E: Print>(
+    rt: &R,
+    errors: &E,
+    i: usize,
+    name: &[u8],
+) -> Option<R::File> {
+    let mut path = buffers::buffer();
+    let Ok(n) = rt.arg(i, &mut path) else {
+        stream::fail(
+            errors,
+            b"the name of a file",
+            &Error::from_raw_os_error(TOO_LONG),
+        );
+        return None;
+    };
+    match open_named(rt, &path[..n]) {
+        Ok(file) => Some(file),
+        Err(why) => {
+            stream::fail(errors, name, &why);
+            None
+        }
     }
-    fd
 }

@@ -8,9 +8,9 @@ ghost use Rattle.console.specs.Answers.{Columns, Judged};
 ghost use Rattle.desk.specs.Limits.{output_room};
 ghost use Rattle.desk.specs.Asking.{held_answer};
 
-use crate::lines;
-use libc::STDIN_FILENO;
+use crate::{buffers, lines};
 use sheet::SheetAnswer;
+use std::io::Read;
 use stream::{Held, Line, Output};
 
 // answers are written where they fill half of this
@@ -24,7 +24,9 @@ fn output() -> [u8; OUTPUT]
 }
 
 // Answers every line of standard input.
-pub(crate) fn ask(
+pub(crate) fn ask<R: Input + Print, E: Print>(
+    rt: &R,
+    errors: &E,
     verdict: SheetAnswer,
     sheet: &[u32],
     air: &[u32; rows::ROWS],
@@ -33,16 +35,20 @@ pub(crate) fn ask(
 )
     requires { Judged verdict sheet.now × Columns air.now psis.now cps.now }
 {
-    let mut piece = io::large_buffer();
+    let mut input = rt.reader();
+    let mut piece = buffers::large_buffer();
     let mut line = lines::places();
     let mut out = output();
     answer_lines(
-        verdict, sheet, air, psis, cps, &mut piece, &mut line, &mut out,
+        &mut input, rt, errors, verdict, sheet, air, psis, cps, &mut piece, &mut line, &mut out,
     );
 }
 
 // Answers the lines of standard input one after the other; its turns are counted down.
-fn answer_lines(
+fn answer_lines<I: Read, W: Print, E: Print>(
+    input: &mut I,
+    to: &W,
+    errors: &E,
     verdict: SheetAnswer,
     sheet: &[u32],
     air: &[u32; rows::ROWS],
@@ -60,7 +66,9 @@ fn answer_lines(
     while turns > 0 {
         turns -= 1;
         let next = stream::next_line(
-            STDIN_FILENO,
+            input,
+            to,
+            errors,
             b"standard input",
             reader,
             piece,
@@ -73,7 +81,9 @@ fn answer_lines(
         let found = next.line;
         match found {
             Line::Of(held) => {
-                output = answer_held(held, line, verdict, sheet, air, psis, cps, out, output);
+                output = answer_held(
+                    to, errors, held, line, verdict, sheet, air, psis, cps, out, output,
+                );
             }
             Line::End => turns = 0,
             Line::Unread => turns = 0,
@@ -82,7 +92,9 @@ fn answer_lines(
 }
 
 // Answers the line that is held, and writes the answers where they fill half of the output: so the next one has its room.
-fn answer_held(
+fn answer_held<W: Print, E: Print>(
+    to: &W,
+    errors: &E,
     held: Held,
     line: &[u8],
     verdict: SheetAnswer,
@@ -100,7 +112,7 @@ fn answer_held(
         return Output::Closed;
     };
     let next = put_answer(held, line, verdict, sheet, air, psis, cps, out, at);
-    stream::make_room(out, Output::At(next))
+    stream::make_room(to, errors, out, Output::At(next))
 }
 
 // The answer to the line that is held: the whole of it stands in the buffer, whatever the line and the sheet.

@@ -6,12 +6,14 @@ ghost use Rattle.console.specs.Limits.{page_room};
 ghost use Rattle.console.specs.Answers.{Judged};
 ghost use Rattle.forms.specs.Limits.{kept_numbers};
 
-use crate::{arguments, lines};
+use crate::{arguments, buffers, lines};
 use forms::arguments::Named;
 use forms::questions::Question;
 use forms::{pages, questions};
-use libc::STDIN_FILENO;
 use sheet::SheetAnswer;
+use std::io;
+use std::io::Read;
+use std::rt::{Env, Files};
 use stream::{Held, Line, Output};
 use walk::WalkAnswer;
 
@@ -23,44 +25,76 @@ enum Input {
 }
 
 // Prints the walk of the question in a file, or on standard input.
-pub(crate) fn print(named: Named, verdict: SheetAnswer, sheet: &[u32], air: &[u32; rows::ROWS])
+pub(crate) fn print<R: Files + Env + io::Input + Print, E: Print>(
+    rt: &R,
+    errors: &E,
+    named: Named,
+    verdict: SheetAnswer,
+    sheet: &[u32],
+    air: &[u32; rows::ROWS],
+)
     requires { Judged verdict sheet.now × (air.now ≡ rows_h) }
 {
     match named {
-        Named::Nothing => print_from(STDIN_FILENO, b"standard input", verdict, sheet, air),
-        Named::Argument(i) => print_file(i, verdict, sheet, air),
+        Named::Nothing => print_from(
+            &mut rt.reader(),
+            rt,
+            errors,
+            b"standard input",
+            verdict,
+            sheet,
+            air,
+        ),
+        Named::Argument(i) => print_file(rt, errors, i, verdict, sheet, air),
     }
 }
 
 // Prints the walk of the question in the file that an argument names.
-fn print_file(i: usize, verdict: SheetAnswer, sheet: &[u32], air: &[u32; rows::ROWS])
+fn print_file<R: Files + Env + Print, E: Print>(
+    rt: &R,
+    errors: &E,
+    i: usize,
+    verdict: SheetAnswer,
+    sheet: &[u32],
+    air: &[u32; rows::ROWS],
+)
     requires { Judged verdict sheet.now × (air.now ≡ rows_h) }
 {
-    let mut name = io::buffer();
-    let n = arguments::show(i, &mut name);
-    let fd = arguments::open(i, &name[..n]);
-    if fd < 0 {
-        return;
+    let mut name = buffers::buffer();
+    let n = arguments::show(rt, i, &mut name);
+    match arguments::open(rt, errors, i, &name[..n]) {
+        Some(mut file) => print_from(&mut file, rt, errors, &name[..n], verdict, sheet, air),
+        None => (),
     }
-    print_from(fd, &name[..n], verdict, sheet, air);
-    libc::close(fd);
 }
 
 // Prints the walk of an input's question, or says what is wrong with it.
-fn print_from(fd: i32, name: &[u8], verdict: SheetAnswer, sheet: &[u32], air: &[u32; rows::ROWS])
+fn print_from<I: Read, W: Print, E: Print>(
+    input: &mut I,
+    to: &W,
+    errors: &E,
+    name: &[u8],
+    verdict: SheetAnswer,
+    sheet: &[u32],
+    air: &[u32; rows::ROWS],
+)
     requires { Judged verdict sheet.now × (air.now ≡ rows_h) }
 {
-    let mut piece = io::large_buffer();
+    let mut piece = buffers::large_buffer();
     let mut line = lines::places();
     let mut numbers = [0i64; questions::KEPT_NUMBERS];
-    match read_all(fd, name, &mut piece, &mut line, &mut numbers) {
-        Input::Question(question) => print_question(question, &numbers, verdict, sheet, air),
+    match read_all(input, to, errors, name, &mut piece, &mut line, &mut numbers) {
+        Input::Question(question) => print_question(
+            to, errors, question, &numbers, verdict, sheet, air,
+        ),
         Input::Unread => (),
     }
 }
 
 // Prints the walk of a question, or says which line is wrong.
-fn print_question(
+fn print_question<W: Print, E: Print>(
+    to: &W,
+    errors: &E,
     question: Question,
     numbers: &[i64],
     verdict: SheetAnswer,
@@ -72,13 +106,13 @@ fn print_question(
     match question {
         Question::Good(lines) => {
             if lines == 0 {
-                say_bad(1);
+                say_bad(errors, 1);
             } else {
-                print_walk(lines, numbers, verdict, sheet, air);
+                print_walk(to, errors, lines, numbers, verdict, sheet, air);
             }
         }
-        Question::Bad(line) => say_bad(line),
-        Question::Returned(line) => say_returned(line),
+        Question::Bad(line) => say_bad(errors, line),
+        Question::Returned(line) => say_returned(errors, line),
     }
 }
 
@@ -94,13 +128,31 @@ fn take_held(question: Question, held: Held, line: &[u8], numbers: &mut [i64]) -
 }
 
 // The whole question of an input, its turns counted down.
-fn read_all(fd: i32, name: &[u8], piece: &mut [u8], line: &mut [u8], numbers: &mut [i64]) -> Input {
+fn read_all<I: Read, W: Print, E: Print>(
+    input: &mut I,
+    to: &W,
+    errors: &E,
+    name: &[u8],
+    piece: &mut [u8],
+    line: &mut [u8],
+    numbers: &mut [i64],
+) -> Input {
     let mut question = Question::Good(0);
     let mut reader = stream::unread();
     let mut turns = u64::MAX;
     while turns > 0 {
         turns -= 1;
-        let next = stream::next_line(fd, name, reader, piece, line, b"", Output::At(0));
+        let next = stream::next_line(
+            input,
+            to,
+            errors,
+            name,
+            reader,
+            piece,
+            line,
+            b"",
+            Output::At(0),
+        );
         reader = next.reader;
         let found = next.line;
         match found {
@@ -126,7 +178,9 @@ fn page() -> [u8; console::PAGE_ROOM]
 }
 
 // Prints the walk of a question of so many lines.
-fn print_walk(
+fn print_walk<W: Print, E: Print>(
+    to: &W,
+    errors: &E,
     lines: u64,
     numbers: &[i64],
     verdict: SheetAnswer,
@@ -137,28 +191,28 @@ fn print_walk(
 {
     let mut out = page();
     let printed = questions::put_page(lines, numbers, verdict, sheet, air, &mut out, 0);
-    stream::flush(&out, Output::At(printed.end));
+    stream::flush(to, errors, &out, Output::At(printed.end));
     let answer = printed.answer;
-    say_refusal(verdict, answer);
+    say_refusal(errors, verdict, answer);
 }
 
 // Says on standard error whose refusal the page ends in, where it ends in one.
-fn say_refusal(verdict: SheetAnswer, answer: WalkAnswer) {
+fn say_refusal<E: Print>(errors: &E, verdict: SheetAnswer, answer: WalkAnswer) {
     let mut out = [0u8; 160];
     let end = pages::put_refusal_note(verdict, answer, &mut out);
-    stream::say(&out, end);
+    stream::say(errors, &out, end);
 }
 
 // Says on standard error which line is not what was expected.
-fn say_bad(line: u64) {
+fn say_bad<E: Print>(errors: &E, line: u64) {
     let mut out = [0u8; 160];
     let end = pages::put_line_bad(line, &mut out);
-    stream::say(&out, end);
+    stream::say(errors, &out, end);
 }
 
 // Says on standard error which line has a carriage return.
-fn say_returned(line: u64) {
+fn say_returned<E: Print>(errors: &E, line: u64) {
     let mut out = [0u8; 160];
     let end = pages::put_line_returned(line, &mut out);
-    stream::say(&out, end);
+    stream::say(errors, &out, end);
 }

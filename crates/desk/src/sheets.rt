@@ -5,12 +5,14 @@ ghost use Rattle.sheet_text.specs.Limits.{most_text, sheet_numbers};
 ghost use Rattle.console.specs.Answers.{Judged};
 ghost use Rattle.desk.specs.Sheets.{Arrived};
 
-use crate::{arguments, pages};
+use crate::{arguments, buffers, pages};
 use forms::arguments::Named;
 use forms::sheets;
 use forms::sheets::Intake;
-use libc::STDIN_FILENO;
 use sheet::{SheetAnswer, pieces};
+use std::io;
+use std::io::Read;
+use std::rt::{Env, Files};
 use stream::{Got, Output};
 
 // What an input brought: a sheet's reading, or that it could not be read.
@@ -21,7 +23,13 @@ pub(crate) enum Input {
 }
 
 // Reads the sheet of an input; its turns are counted down.
-fn read_from(fd: i32, name: &[u8], piece: &mut [u8], list: &mut [u32]) -> Input
+fn read_from<I: Read, E: Print>(
+    input: &mut I,
+    errors: &E,
+    name: &[u8],
+    piece: &mut [u8],
+    list: &mut [u32],
+) -> Input
     requires { length list.old ≡ sheet_numbers }
     ensures { Arrived list.old result list.new }
 {
@@ -30,7 +38,7 @@ fn read_from(fd: i32, name: &[u8], piece: &mut [u8], list: &mut [u32]) -> Input
     let mut turns = u64::MAX;
     while turns > 0 {
         turns -= 1;
-        match stream::read_some(fd, name, piece) {
+        match stream::read_some(input, errors, name, piece) {
             Got::Bytes(n) => {
                 let intake = sheets::take_piece(reading, &piece[..n], list);
                 reading = intake.reading;
@@ -51,53 +59,64 @@ fn read_from(fd: i32, name: &[u8], piece: &mut [u8], list: &mut [u32]) -> Input
 }
 
 // Reads the sheet of an input, which a failure's line names.
-fn read_input(fd: i32, name: &[u8], list: &mut [u32]) -> Input
+fn read_input<I: Read, E: Print>(input: &mut I, errors: &E, name: &[u8], list: &mut [u32]) -> Input
     requires { length list.old ≡ sheet_numbers }
     ensures { Arrived list.old result list.new }
 {
-    let mut piece = io::large_buffer();
-    read_from(fd, name, &mut piece, list)
+    let mut piece = buffers::large_buffer();
+    read_from(input, errors, name, &mut piece, list)
 }
 
 // Reads the sheet of the file that an argument names.
-pub(crate) fn read_file(i: usize, list: &mut [u32]) -> Input
+pub(crate) fn read_file<R: Files + Env, E: Print>(
+    rt: &R,
+    errors: &E,
+    i: usize,
+    list: &mut [u32],
+) -> Input
     requires { length list.old ≡ sheet_numbers }
     ensures { Arrived list.old result list.new }
 {
-    let mut name = io::buffer();
-    let n = arguments::show(i, &mut name);
-    let fd = arguments::open(i, &name[..n]);
-    if fd < 0 {
-        return Input::Unread;
+    let mut name = buffers::buffer();
+    let n = arguments::show(rt, i, &mut name);
+    match arguments::open(rt, errors, i, &name[..n]) {
+        Some(mut file) => read_input(&mut file, errors, &name[..n], list),
+        None => Input::Unread,
     }
-    let input = read_input(fd, &name[..n], list);
-    libc::close(fd);
-    input
 }
 
 // Reads the sheet of a file, or of standard input.
-fn read_named(named: Named, list: &mut [u32]) -> Input
+fn read_named<R: Files + Env + io::Input, E: Print>(
+    rt: &R,
+    errors: &E,
+    named: Named,
+    list: &mut [u32],
+) -> Input
     requires { length list.old ≡ sheet_numbers }
     ensures { Arrived list.old result list.new }
 {
     match named {
-        Named::Nothing => read_input(STDIN_FILENO, b"standard input", list),
-        Named::Argument(i) => read_file(i, list),
+        Named::Nothing => read_input(&mut rt.reader(), errors, b"standard input", list),
+        Named::Argument(i) => read_file(rt, errors, i, list),
     }
 }
 
 // Says whether the sheet of a file, or of standard input, is accepted.
-pub(crate) fn report(named: Named) {
+pub(crate) fn report<R: Files + Env + io::Input + Print, E: Print>(
+    rt: &R,
+    errors: &E,
+    named: Named,
+) {
     let mut list = [0u32; sheet::NUMBERS];
-    match read_named(named, &mut list) {
+    match read_named(rt, errors, named, &mut list) {
         Input::Sheet(intake) => {
             let mut out = [0u8; 64];
             let reading = intake.reading;
             let told = sheets::report(reading, &list, &mut out);
             let verdict = told.verdict;
             let end = told.end;
-            pages::say_return(verdict, intake.returned);
-            stream::flush(&out, Output::At(end));
+            pages::say_return(errors, verdict, intake.returned);
+            stream::flush(rt, errors, &out, Output::At(end));
         }
         Input::Unread => (),
     }
@@ -111,11 +130,11 @@ fn sheet_places() -> [u8; sheet_text::MOST_TEXT]
 }
 
 // Prints the text of a sheet that was judged, or its refusal, which is said on standard error too: a text is often written to a file that nobody looks at.
-pub(crate) fn write(verdict: SheetAnswer, sheet: &[u32])
+pub(crate) fn write<W: Print, E: Print>(to: &W, errors: &E, verdict: SheetAnswer, sheet: &[u32])
     requires { Judged verdict sheet.now }
 {
     let mut out = sheet_places();
     let end = sheets::put_sheet(verdict, sheet, &mut out);
-    stream::flush(&out, Output::At(end));
-    pages::say_verdict(verdict);
+    stream::flush(to, errors, &out, Output::At(end));
+    pages::say_verdict(errors, verdict);
 }
