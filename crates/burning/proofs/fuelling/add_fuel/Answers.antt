@@ -1,7 +1,6 @@
 -- `add_fuel`: carbon, then hydrogen, each by `add_atoms`: one that is too many is refusal 4, else the gas with both, the air as it was.
-use mathlib.Core.List.{[]}
 use borrow.Author.Rules.{rules}
-use mathlib.Core.List.{◌∷◌}
+use mathlib.Core.List.{[], ◌∷◌}
 use mathlib.Core.Path.{◌≡◌, refl, sym, ap, ◌∙◌}
 use Prim.Native.Nat.{ℕ, ◌+◌}
 use lib.IntN.{ℤ}
