@@ -42,7 +42,8 @@ returns-then-target-first c = let target_fits : SFits w64 c.args.target.0 =
     search rules in
     let first_fits : SFits w64 c.at_kelvin-first.result.0 =
     search rules in
-    unreached_told _ _ _ (Refused (Plain 8)) (here (below_at c.args.gas c.args.sheet.now coldest c.weigh-masses.ensures c.at_kelvin-first.ensures target_fits first_fits c.if-target-first.true)) refl
+    let below = below_at c.args.gas c.args.sheet.now coldest c.weigh-masses.ensures c.at_kelvin-first.ensures target_fits first_fits c.if-target-first.true in
+    unreached_told _ _ _ (Refused (Plain 8)) (here below) refl
 
 pub at_kelvin-last-requires : goal.at_kelvin-last-requires
 at_kelvin-last-requires c = let masses_ready : Ready c.weigh-masses.result c.args.sheet.now c.args.air.now =
@@ -56,7 +57,9 @@ returns-then-last-target c = let target_fits : SFits w64 c.args.target.0 =
     search rules in
     let last_fits : SFits w64 c.at_kelvin-last.result.0 =
     search rules in
-    unreached_told _ _ _ (Refused (Plain 9)) (after (below_at c.args.gas c.args.sheet.now coldest c.weigh-masses.ensures c.at_kelvin-first.ensures target_fits first_fits c.if-target-first.false) (here (above_at c.args.gas c.args.sheet.now hottest c.weigh-masses.ensures c.at_kelvin-last.ensures target_fits last_fits c.if-last-target.true))) refl
+    let below = below_at c.args.gas c.args.sheet.now coldest c.weigh-masses.ensures c.at_kelvin-first.ensures target_fits first_fits c.if-target-first.false in
+    let above = above_at c.args.gas c.args.sheet.now hottest c.weigh-masses.ensures c.at_kelvin-last.ensures target_fits last_fits c.if-last-target.true in
+    unreached_told _ _ _ (Refused (Plain 9)) (after below (here above)) refl
 
 pub reached-requires : goal.reached-requires
 reached-requires c = let masses_ready : Ready c.weigh-masses.result c.args.sheet.now c.args.air.now =
@@ -82,4 +85,6 @@ returns c = let target_fits : SFits w64 c.args.target.0 =
     search rules in
     let last_fits : SFits w64 c.at_kelvin-last.result.0 =
     search rules in
-    reached_told _ _ _ (clear (below_at c.args.gas c.args.sheet.now coldest c.weigh-masses.ensures c.at_kelvin-first.ensures target_fits first_fits c.if-target-first.false) (clear (above_at c.args.gas c.args.sheet.now hottest c.weigh-masses.ensures c.at_kelvin-last.ensures target_fits last_fits c.if-last-target.false) none)) (rw c.weigh-masses.ensures at c.reached.ensures)
+    let below = below_at c.args.gas c.args.sheet.now coldest c.weigh-masses.ensures c.at_kelvin-first.ensures target_fits first_fits c.if-target-first.false in
+    let above = above_at c.args.gas c.args.sheet.now hottest c.weigh-masses.ensures c.at_kelvin-last.ensures target_fits last_fits c.if-last-target.false in
+    reached_told _ _ _ (clear below (clear above none)) (rw c.weigh-masses.ensures at c.reached.ensures)
