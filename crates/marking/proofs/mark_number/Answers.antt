@@ -57,7 +57,12 @@ lies-requires c = let in_range : Ranged c.args.key c.args.window =
     let middle : to_z w64 (of_z w64 c.turn-middle.result) ≡ turned c.fields_of-fields.result.negative c.args.key =
     rw (c.turn-middle.ensures, back c.ranges.key) (back (turned_fits c.fields_of-fields.result.negative in_range)) in
     let p = c.fields_of-fields in 
-    (c.requires.fact_1, (c.requires.fact_2, (p.ensures.fraction_lt, rw (back (add-lies c), middle, back c.ranges.window) (high_most p.result.negative in_range))))
+    record {
+      fact_1 = c.requires.fact_1;
+      fact_2 = c.requires.fact_2;
+      fact_3 = p.ensures.fraction_lt;
+      fact_4 = rw (middle, back c.ranges.window, back (high_fits p.result.negative in_range)) (high_most p.result.negative in_range);
+    }
 
 pub returns-then-lies : goal.returns-then-lies
 returns-then-lies c = let value : let p = c.fields_of-fields.result in HasValue c.args.x p.negative (sized p.exponent p.fraction) (2 ^ 1074) =
@@ -71,7 +76,7 @@ returns-then-lies c = let value : let p = c.fields_of-fields.result in HasValue 
     let a = c.args in 
     let p = c.fields_of-fields.result in 
     let v = value in
-    let l = rw (back (sub_lies c), back (add-lies c), middle, back c.ranges.window) at c.lies.ensures in
+    let l = rw (middle, back c.ranges.window, back (low_fits p.negative in_range), back (high_fits p.negative in_range)) at c.lies.ensures in
     rw (value_finite a.x p.negative (sized p.exponent p.fraction) (2 ^ 1074) v)
     (ap gives (near_value a.scale a.x p.negative (sized p.exponent p.fraction) (2 ^ 1074) a.key a.window (pow_pos 1074) v ∙ sym l)) in
     sym (told ∙ ap gives c.if-lies.true)
@@ -88,7 +93,7 @@ returns-else-lies c = let value : let p = c.fields_of-fields.result in HasValue 
     let a = c.args in 
     let p = c.fields_of-fields.result in 
     let v = value in
-    let l = rw (back (sub_lies c), back (add-lies c), middle, back c.ranges.window) at c.lies.ensures in
+    let l = rw (middle, back c.ranges.window, back (low_fits p.negative in_range), back (high_fits p.negative in_range)) at c.lies.ensures in
     rw (value_finite a.x p.negative (sized p.exponent p.fraction) (2 ^ 1074) v)
     (ap gives (near_value a.scale a.x p.negative (sized p.exponent p.fraction) (2 ^ 1074) a.key a.window (pow_pos 1074) v ∙ sym l)) in
     sym (told ∙ ap gives c.if-lies.false)

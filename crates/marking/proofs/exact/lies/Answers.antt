@@ -17,7 +17,7 @@ use Rattle.marking.proofs.exact.lies.Goals as goal
 pub cut_by-size-requires : goal.cut_by-size-requires
 cut_by-size-requires c = let significand_fits : c.significand_of-digits.result < 2 ^ 53 =
     rw c.significand_of-digits.ensures (significand_lt c.args.fields.exponent c.args.fields.fraction c.requires.fact_3) in
-    (c.requires.fact_2, (significand_fits, (omega arith, omega arith)))
+    record { fact_1 = c.requires.fact_2; fact_2 = significand_fits; fact_3 = omega arith; fact_4 = omega arith }
 
 pub of_u64-requires : goal.of_u64-requires
 of_u64-requires c = let cut_is : let a = c.args in CutOf (a.scale * significand a.fields.exponent a.fields.fraction) (2 ^ places a.fields.exponent) c.cut_by-size.result =
