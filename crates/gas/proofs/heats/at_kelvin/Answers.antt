@@ -3,7 +3,7 @@ use mathlib.Core.Path.{◌≡◌, sym, ap, ◌∙◌}
 use mathlib.Core.List.{List}
 use Prim.Native.Nat.{ℕ}
 use native.Mathlib.Omega.{arith}
-use Rattle.rows.specs.TableLaws.{h_most}
+use Rattle.rows.proofs.TableLaws.{h_most}
 use Rattle.rows.specs.Table.{column, air_h}
 use Rattle.rows.specs.Rows.{rows_h}
 use Rattle.sheet.specs.SheetLaws.{accepted_limit}
