@@ -36,7 +36,7 @@ returns-in-Number c = let in_range : out_of_range c.args.key c.args.window ≡ f
     (sym (in_plain (pos 0) (pos 100000) c.ranges.window c.inside-2.ensures) ∙ c.if-not-inside-2.false) in
     let number_is : scaled_of c.args.typed ≡ Number c.in-Number.scale c.in-Number.x =
     sym c.at_scale.ensures ∙ c.in-Number.is in
-    let a = c.args in 
+    let a = c.args in
     (rw (back c.ranges.key, back c.ranges.window) at c.mark_number.ensures)
     ∙ sym (by_scale a.typed a.key a.window in_range ∙ ap (λ (n : Scaled). told_of n a.key a.window) number_is)
 
@@ -45,7 +45,7 @@ returns-in-Nothing c = let in_range : out_of_range c.args.key c.args.window ≡ 
     both_inside c.args.key c.args.window
     (sym (in_plain (neg_ℤ (pos 1000000000000)) (pos 1000000000000) c.ranges.key c.inside.ensures) ∙ c.if-not-inside.false)
     (sym (in_plain (pos 0) (pos 100000) c.ranges.window c.inside-2.ensures) ∙ c.if-not-inside-2.false) in
-    let a = c.args in 
+    let a = c.args in
     sym
     (by_scale a.typed a.key a.window in_range
     ∙ ap (λ (n : Scaled). told_of n a.key a.window) (sym c.at_scale.ensures ∙ c.in-Nothing.is))

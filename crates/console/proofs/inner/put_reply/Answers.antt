@@ -16,8 +16,8 @@ slice_bounds-request_of-end c = omega (arith, c.field_end-end.ensures, span_from
 
 pub returns : goal.returns
 returns c = rw (
-      line_is c.args.verdict c.args.sheet.now c.args.line.now c.field_end-end.result
-          (sym c.holds_return.ensures ∙ c.if-holds_return.false) c.field_end-end.ensures,
-      ← c.request_of-request.ensures,
-    )
+  line_is c.args.verdict c.args.sheet.now c.args.line.now c.field_end-end.result
+      (sym c.holds_return.ensures ∙ c.if-holds_return.false) c.field_end-end.ensures,
+  ← c.request_of-request.ensures,
+)
     c.reply.ensures
