@@ -3,6 +3,8 @@ use Rattle.fields.specs.WordsLaws.{position_all, position_at, position_none}
 use Rattle.fields.specs.FieldsLaws.{span_from}
 use mathlib.Core.Bool.{true, false}
 use native.Mathlib.Omega.{arith}
+use Rattle.std.proofs.lemmas.Bool.Decides.{Decides-eqb}
+use Rattle.std.proofs.lemmas.Slice.Eq.{slice_eq-Decides}
 use Prim.Native.Nat.{◌-◌}
 use Rattle.fields.proofs.position_in.Goals as goal
 
@@ -23,7 +25,7 @@ returns-then-eq c = omega (
       arith,
       c.loop-from.invariant.1,
       position_at c.args.word.now c.args.text.now c.loop-from.from c.field_end-end.result true (omega arith)
-          c.field_end-end.ensures c.eq.ensures c.if-eq.true,
+          c.field_end-end.ensures (slice_eq-Decides Decides-eqb _ _ _ c.eq.ensures) c.if-eq.true,
     )
 
 pub overflow_add-from : goal.overflow_add-from
@@ -39,7 +41,7 @@ loop-from-preserved c = (
         arith,
         c.loop-from.invariant.1,
         position_at c.args.word.now c.args.text.now c.loop-from.from c.field_end-end.result false (omega arith)
-            c.field_end-end.ensures c.eq.ensures c.if-eq.false,
+            c.field_end-end.ensures (slice_eq-Decides Decides-eqb _ _ _ c.eq.ensures) c.if-eq.false,
       ),
     )
 
