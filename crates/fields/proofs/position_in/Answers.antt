@@ -5,7 +5,6 @@ use mathlib.Core.Bool.{true, false}
 use native.Mathlib.Omega.{arith}
 use Rattle.std.proofs.lemmas.Bool.Decides.{Decides-eqb}
 use Rattle.std.proofs.lemmas.Slice.Eq.{slice_eq-Decides}
-use Prim.Native.Nat.{◌-◌}
 use Rattle.fields.proofs.position_in.Goals as goal
 
 pub loop-from-init : goal.loop-from-init
@@ -22,11 +21,11 @@ slice_bounds-eq-end c = omega (arith, c.field_end-end.ensures, span_from c.args.
 
 pub returns-then-eq : goal.returns-then-eq
 returns-then-eq c = omega (
-      arith,
-      c.loop-from.invariant.1,
-      position_at c.args.word.now c.args.text.now c.loop-from.from c.field_end-end.result true (omega arith)
-          c.field_end-end.ensures (slice_eq-Decides Decides-eqb _ _ _ c.eq.ensures) c.if-eq.true,
-    )
+  arith,
+  c.loop-from.invariant.1,
+  position_at c.args.word.now c.args.text.now c.loop-from.from c.field_end-end.result true (omega arith)
+      c.field_end-end.ensures (slice_eq-Decides Decides-eqb _ _ _ c.eq.ensures) c.if-eq.true,
+)
 
 pub overflow_add-from : goal.overflow_add-from
 overflow_add-from c = omega (arith, c.field_end-end.ensures, span_from c.args.text.now c.loop-from.from (omega arith))
@@ -36,14 +35,14 @@ loop-from-smaller c = omega (arith, c.field_end-end.ensures)
 
 pub loop-from-preserved : goal.loop-from-preserved
 loop-from-preserved c = (
-      omega (arith, c.field_end-end.ensures),
-      omega (
-        arith,
-        c.loop-from.invariant.1,
-        position_at c.args.word.now c.args.text.now c.loop-from.from c.field_end-end.result false (omega arith)
-            c.field_end-end.ensures (slice_eq-Decides Decides-eqb _ _ _ c.eq.ensures) c.if-eq.false,
-      ),
-    )
+  omega (arith, c.field_end-end.ensures),
+  omega (
+    arith,
+    c.loop-from.invariant.1,
+    position_at c.args.word.now c.args.text.now c.loop-from.from c.field_end-end.result false (omega arith)
+        c.field_end-end.ensures (slice_eq-Decides Decides-eqb _ _ _ c.eq.ensures) c.if-eq.false,
+  ),
+)
 
 pub returns : goal.returns
 returns c = omega (arith, c.loop-from.invariant.1, position_none c.args.word.now c.args.text.now c.loop-from.from (omega arith))

@@ -7,16 +7,16 @@ use native.Mathlib.Omega.{arith}
 use Rattle.typed.proofs.finish.Goals as goal
 
 pub quotient-requires : goal.quotient-requires
-quotient-requires c =  record {
-      fact_1 = subst Small c.in-Whole.is c.requires;
-      fact_2 = omega arith;
-    }
+quotient-requires c = record {
+  fact_1 = subst Small c.in-Whole.is c.requires;
+  fact_2 = omega arith;
+}
 
 pub quotient-requires-in-Fraction : goal.quotient-requires-in-Fraction
 quotient-requires-in-Fraction c = let q : Small (Fraction c.in-Fraction.m c.in-Fraction.k) = subst Small c.in-Fraction.is c.requires in record {
-      fact_1 = q.0;
-      fact_2 = q.1;
-    }
+  fact_1 = q.0;
+  fact_2 = q.1;
+}
 
 pub returns-in-Whole : goal.returns-in-Whole
 returns-in-Whole c = ap Is (c.with_sign.ensures ∙ ap (with_sign c.args.negative) c.quotient.ensures) ∙ sym (ap (finish_of c.args.negative) c.in-Whole.is)
