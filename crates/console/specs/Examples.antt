@@ -1,6 +1,6 @@
 -- Document 01's printed walk comes out byte for byte, over any accepted sheet: A 1, no fuel, start 200,000 mK, q 1,200,000,001 then 2,400,000. With no steps it is the header
 -- alone; over a sheet that is refused it is the header, then `refused` and the number, whatever the walk. Assumes nothing.
-use Rattle.std.specs.Prelude.{◌≡◌, List, [], ◌∷◌, ◌++◌, ℕ, ℤ, pos, replicate}
+use Rattle.std.specs.Prelude.{◌≡◌, List, [], ◌++◌, ℕ, ℤ, pos, replicate}
 use Rattle.std.proofs.Math.Path.{refl, ap}
 use Rattle.std.proofs.Common.{◌∙◌, lit≤}
 use Rattle.text.specs.Bytes.{bytes_of}

@@ -1,6 +1,6 @@
 -- `gas_ask_of`: a charge's numbers and one more over a good sheet are asked; a refused sheet, and then other fields, are not: the cases of `gas_ask_of`.
 use borrow.Author.Rules.{rules}
-use mathlib.Core.Path.{◌≡◌, refl}
+use mathlib.Core.Path.{refl}
 use mathlib.Core.List.{List}
 use lib.IntN.{ℤ, pos}
 use lib.ListN.{get_or, replicate}
@@ -13,7 +13,7 @@ use Rattle.sheet.specs.declared.SheetAnswer.TheVariants.{Good, Refused as SheetR
 use Rattle.burning.specs.Burning.{charge_numbers, charge_in}
 use Rattle.console.specs.declared.requests.GasAsk.TheVariants.{Misfit}
 use Rattle.console.specs.Limits.{start_numbers}
-use Rattle.console.specs.Requests.{ask_of, gas_ask_of}
+use Rattle.console.specs.Requests.{ask_of}
 use Rattle.console.proofs.requests.gas_ask_of.Goals as goal
 
 pub returns-then-not-read_exactly : goal.returns-then-not-read_exactly
