@@ -5,14 +5,14 @@
 --     at_most, at_least    a width of at most 2 ^ n has at most n looks, and one of at least 2 ^ n at least n: ten or eleven from 200 to 2,000
 --     highest-is      a number that passes, above which none does, is the highest
 -- Assumes nothing.
-use Rattle.std.proofs.Common.{le-leb, leb-true, leb-false, sym, ◌∙◌, subst, append_assoc, ⊎_elim, eq-or-lt_of_le, le_of_suc-le-suc, add-one, arith, lit<, lit≤, pow_pos, length-set, length-append}
+use Rattle.std.proofs.Common.{le-leb, leb-true, leb-false, sym, ◌∙◌, subst, ⊎_elim, eq-or-lt_of_le, le_of_suc-le-suc, add-one, arith, lit<, lit≤, pow_pos, length-set, length-append}
 use Rattle.std.proofs.lemmas.Bool.{lt-leb}
 use Rattle.std.specs.Prelude.{◌≡◌, Bool, true, false, List, ◌++◌, leb, length, drop, replicate, set}
 use Rattle.std.proofs.Math.Path.{refl, ap, ap₂}
 use Rattle.std.proofs.Math.Bool.{cond}
 use Prim.Native.Nat.{ℕ, zero, suc, ◌+◌, ◌-◌, ◌^◌, ◌<◌, ◌≤◌}
 use Rattle.std.proofs.Math.Nat.{pow-succ'}
-use Rattle.std.proofs.lemmas.List.{length-replicate, drop-append-le}
+use Rattle.std.proofs.lemmas.List.{length-replicate}
 use Rattle.std.proofs.lemmas.List.Edits.{sets, sets-eq}
 use Rattle.rows.specs.Limits.{first_kelvin, last_kelvin}
 use Rattle.air.specs.Limits.{look_places}

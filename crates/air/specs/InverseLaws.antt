@@ -1,6 +1,6 @@
 -- A temperature from a value that runs straight and rises (document 01, "Temperature from heat"): the row that the halving rule keeps holds the answer,
 -- and one division in that row gives it, with the rest. The psi inverse and the temperature of a gas both cite these laws. Assumes nothing.
-use Rattle.std.specs.Prelude.{◌≡◌, [], ℕ, suc, ◌+◌, ◌-◌, ◌*◌, ◌/◌, ◌%◌, ◌<◌, ◌≤◌, ℤ, pos, ◌+ℤ◌, ◌-ℤ◌, length, ◌≤ℤ◌, ◌<ℤ◌}
+use Rattle.std.specs.Prelude.{◌≡◌, [], ℕ, suc, ◌+◌, ◌*◌, ◌/◌, ◌%◌, ◌<◌, ◌≤◌, ℤ, pos, ◌+ℤ◌, ◌-ℤ◌, length, ◌≤ℤ◌, ◌<ℤ◌}
 use Rattle.std.proofs.Math.Path.{refl, ap}
 use Rattle.std.proofs.Common.{sym, ◌∙◌, subst, ⊎_elim, eq-or-lt_of_le, mod-lt, div-lt_iff_lt-mul, suc-mul, arith, lit<, lit≤}
 use Rattle.std.proofs.Math.Bool.{true, false}

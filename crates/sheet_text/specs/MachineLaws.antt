@@ -8,7 +8,6 @@ use borrow.Author.Tests.{eqb-true, ltb-true, ltb-false, lt-ltb, eq-eqb, ne_eqb, 
 use Rattle.rows.specs.Limits.{first_kelvin, table_rows}
 use Rattle.text.specs.Wholes.{is_digit, may_follow}
 use Rattle.text.specs.WholesLaws.{digit_range, follow_most, and_left, and_right}
-use Rattle.refusal.specs.Refusals.{first}
 use Rattle.sheet_text.specs.Limits.{most_figure}
 use Rattle.sheet_text.specs.declared.Place.{Place}
 use Rattle.sheet_text.specs.declared.State.{State}

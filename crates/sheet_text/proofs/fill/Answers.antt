@@ -1,6 +1,6 @@
 -- `fill`: byte after byte, the state and the list are what `fill_byte` makes of the text; after a bad byte nothing changes any more.
 use mathlib.Core.Path.{◌≡◌, refl, sym, ◌∙◌, ap}
-use Prim.Native.Nat.{◌+◌, ◌-◌}
+use Prim.Native.Nat.{◌+◌}
 use native.Mathlib.Omega.{arith}
 use lib.ListN.{length, take}
 use lib.Seq.{take_all}
@@ -20,23 +20,23 @@ store_place-requires c = c.loop-i.invariant.1
 
 pub shape_of-list-in-Bad : goal.shape_of-list-in-Bad
 shape_of-list-in-Bad c = let still_long : length c.store_place.new.list ≡ sheet_numbers =
-    let l = c.loop-i in 
+    let l = c.loop-i in
     ap length c.store_place.ensures ∙ (length_stored (Going l.p) _ l.list ∙ l.invariant.1) in
     still_long ∙ sym c.requires
 
 pub returns-in-Bad : goal.returns-in-Bad
 returns-in-Bad c = let after_byte : filled c.step_place.result c.store_place.new.list ≡ run fill_byte (filled (Going c.args.from) c.args.list.now) (take (c.loop-i.i + 1) c.args.text.now) =
-    let l = c.loop-i in 
+    let l = c.loop-i in
     byte_more (filled (Going c.args.from) c.args.list.now) c.args.text.now l.i l.p l.list (omega arith) l.invariant.2
     c.step_place.ensures c.store_place.ensures in
     bad_whole (filled (Going c.args.from) c.args.list.now) c.args.text.now (c.loop-i.i + 1) _ _ (rw c.in-Bad.is at after_byte)
 
 pub loop-i-preserved : goal.loop-i-preserved
 loop-i-preserved c = let still_long : length c.store_place.new.list ≡ sheet_numbers =
-    let l = c.loop-i in 
+    let l = c.loop-i in
     ap length c.store_place.ensures ∙ (length_stored (Going l.p) _ l.list ∙ l.invariant.1) in
     let after_byte : filled c.step_place.result c.store_place.new.list ≡ run fill_byte (filled (Going c.args.from) c.args.list.now) (take (c.loop-i.i + 1) c.args.text.now) =
-    let l = c.loop-i in 
+    let l = c.loop-i in
     byte_more (filled (Going c.args.from) c.args.list.now) c.args.text.now l.i l.p l.list (omega arith) l.invariant.2
     c.step_place.ensures c.store_place.ensures in
     (omega arith, still_long, rw c.in-Going.is at after_byte)

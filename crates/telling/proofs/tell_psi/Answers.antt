@@ -4,7 +4,7 @@ use Rattle.signed.specs.Zed.{back}
 use Rattle.telling.proofs.tell_psi.Goals as goal
 
 pub returns-in-At : goal.returns-in-At
-returns-in-At c = let g = c.answer-1.given in rw (g.1, back {z = g.0.0.0} (search rules))
+returns-in-At c = rw (c.in-At.is, back {z = c.in-At.t.0} (search rules))
 
 pub returns-in-Refused : goal.returns-in-Refused
 returns-in-Refused c = rw (c.in-Refused.is, c.tell_refusal-told.ensures)

@@ -4,7 +4,7 @@ use Rattle.signed.specs.Zed.{back}
 use Rattle.telling.proofs.tell_specific.Goals as goal
 
 pub returns-in-Is : goal.returns-in-Is
-returns-in-Is c = let g = c.answer-1.given in rw (g.1, back {z = g.0.0} (search rules))
+returns-in-Is c = rw (c.in-Is.is, back {z = c.in-Is.heat} (search rules))
 
 pub returns-in-Refused : goal.returns-in-Refused
 returns-in-Refused c = rw c.in-Refused.is c.no_heat.ensures

@@ -27,10 +27,10 @@ unfolding ten_to
 loop-unit-init c = (omega arith, omega arith, refl, λ q. absurd (omega arith))
 
 pub loop-unit-preserved : goal.loop-unit-preserved
-loop-unit-preserved c = let l = c.loop-unit in 
+loop-unit-preserved c = let l = c.loop-unit in
     (omega arith, omega arith, next_unit l.unit l.count l.invariant.0 l.invariant.2, λ q. omega arith)
 
 pub returns : goal.returns
-returns c = let l = c.loop-unit in 
+returns c = let l = c.loop-unit in
     let e : length (decimal c.args.n) ≡ l.count = counted c.args.n l.unit l.count l.invariant.0 l.invariant.2 l.invariant.3 (omega arith) in
     (sym e, omega (arith, decimal_most c.args.n c.ranges.n))

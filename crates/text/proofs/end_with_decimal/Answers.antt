@@ -11,20 +11,20 @@ pub loop-rest-init : goal.loop-rest-init
 loop-rest-init c = (omega arith, behind_all (decimal c.args.n) c.args.end c.requires.1)
 
 pub end_with_byte-at-requires : goal.end_with_byte-at-requires
-end_with_byte-at-requires c = let l = c.loop-rest in 
+end_with_byte-at-requires c = let l = c.loop-rest in
     (omega (arith, behind_room c.requires.0 l.invariant.1, digits_some l.rest), behind_inside l.invariant.1)
 
 pub loop-rest-preserved : goal.loop-rest-preserved
-loop-rest-preserved c = let l = c.loop-rest in 
+loop-rest-preserved c = let l = c.loop-rest in
     (omega arith, behind_more (rw (last_digit l.rest (omega arith)) at l.invariant.1) c.end_with_byte-at.ensures)
 
 pub end_with_byte-requires : goal.end_with_byte-requires
-end_with_byte-requires c = let l = c.loop-rest in 
+end_with_byte-requires c = let l = c.loop-rest in
     (omega (arith, behind_room c.requires.0 l.invariant.1, digits_some l.rest), behind_inside l.invariant.1)
 
 pub shape_of-buf : goal.shape_of-buf
 shape_of-buf c = omega (arith, stands_length c.end_with_byte.ensures, stands_length c.loop-rest.invariant.1.stands)
 
 pub returns : goal.returns
-returns c = let l = c.loop-rest in 
+returns c = let l = c.loop-rest in
     behind_nothing (behind_more {xs = []} (rw (one_digit l.rest (omega arith)) at l.invariant.1) c.end_with_byte.ensures)

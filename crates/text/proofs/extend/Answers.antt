@@ -8,15 +8,15 @@ use Rattle.text.proofs.extend.Goals as goal
 
 pub overflow_mul-result : goal.overflow_mul-result
 overflow_mul-result c = omega (
-      arith,
-      follow_most c.args.limit c.args.seen c.args.v c.args.d (sym c.may_follow.ensures ∙ c.if-may_follow.true),
-    )
+  arith,
+  follow_most c.args.limit c.args.seen c.args.v c.args.d (sym c.may_follow.ensures ∙ c.if-may_follow.true),
+)
 
 pub overflow_add-result : goal.overflow_add-result
 overflow_add-result c = omega (
-      arith,
-      follow_most c.args.limit c.args.seen c.args.v c.args.d (sym c.may_follow.ensures ∙ c.if-may_follow.true),
-    )
+  arith,
+  follow_most c.args.limit c.args.seen c.args.v c.args.d (sym c.may_follow.ensures ∙ c.if-may_follow.true),
+)
 
 pub returns-then-may_follow : goal.returns-then-may_follow
 unfolding extended

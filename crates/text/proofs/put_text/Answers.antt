@@ -1,5 +1,4 @@
 -- `put_text`: byte after byte, the whole text is put as far as there is room (`put_more`); from past the end nothing is (`put_full`).
-use Prim.Native.Nat.{◌-◌}
 use native.Mathlib.Omega.{arith}
 use Rattle.text.specs.PutLaws.{put_none, put_full, put_more, put_all}
 use Rattle.text.proofs.put_text.Goals as goal

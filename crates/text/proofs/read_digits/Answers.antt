@@ -1,6 +1,5 @@
 -- `read_digits`: a step for each byte reads what `digits_of` reads of the whole text (`run_more`).
 use mathlib.Core.Path.{refl, sym, ◌∙◌, ap}
-use Prim.Native.Nat.{◌-◌}
 use native.Mathlib.Omega.{arith}
 use lib.Seq.{take_all}
 use lib.ListN.{get_or}
@@ -15,10 +14,10 @@ loop-i-init c = (omega arith, refl)
 
 pub loop-i-preserved : goal.loop-i-preserved
 loop-i-preserved c = (
-      omega arith,
-      (c.step_digits-s.ensures ∙ ap (λ x. step_digits c.args.limit x (get_or c.args.text.now c.loop-i.i 0)) c.loop-i.invariant.1)
-          ∙ sym (run_more (step_digits c.args.limit) Empty c.args.text.now c.loop-i.i (omega arith)),
-    )
+  omega arith,
+  (c.step_digits-s.ensures ∙ ap (λ x. step_digits c.args.limit x (get_or c.args.text.now c.loop-i.i 0)) c.loop-i.invariant.1)
+      ∙ sym (run_more (step_digits c.args.limit) Empty c.args.text.now c.loop-i.i (omega arith)),
+)
 
 pub returns : goal.returns
 unfolding digits_of

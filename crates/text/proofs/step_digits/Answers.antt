@@ -1,7 +1,6 @@
 -- `step_digits`: a byte that is no digit is Bad, a digit extends what was read, with its value from 0 to 9 (`digit_range`).
 use mathlib.Core.Path.{◌≡◌, refl, sym, ◌∙◌}
 use mathlib.Core.Bool.{true, false}
-use borrow.Author.Tests.{not-true, not-false}
 use Rattle.text.specs.WholesLaws.{digit_range}
 use Rattle.text.specs.Wholes.{is_digit, step_digits}
 use Rattle.text.proofs.step_digits.Goals as goal

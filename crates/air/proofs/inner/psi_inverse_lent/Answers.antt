@@ -2,9 +2,9 @@
 use borrow.Author.Rules.{rules}
 use borrow.Author.Tests.{lt-ltb, le-ltb}
 use mathlib.Core.Path.{◌≡◌, refl, ◌∙◌}
-use mathlib.Core.Bool.{Bool, false}
+use mathlib.Core.Bool.{Bool}
 use native.Mathlib.Omega.{arith}
-use lib.Dec.{ltb}
+use lib.IntN.{ℤ}
 use lib.ListN.{length}
 use lib.Signed.{lt_z, ◌≤ℤ◌}
 use mir.Syntax.{w64}
@@ -19,51 +19,60 @@ use Rattle.air.specs.Answers.{psi_value, psi_order}
 use Rattle.air.proofs.PsiSearch.{psi_whole, psi_end, psi_refused, psi_answered}
 use Rattle.air.proofs.inner.psi_inverse_lent.Goals as goal
 
--- past the refusals
-module _ (c : tie.Else3) where
-  cleared : let s = c.before.before.before.before.before.before.before.before in Clear (psi_order (length s.args.looks.now) s.args.target)
-  cleared =
-      clear (room c.before.before.before.before.before.before)
-      (clear (at_200 c.before.before.before.before c.before.before.before.if2.false) (clear (at_2000 c.before c.if3.false) none))
+-- a test against the first or the last psi is one of the target and the column's end
+below_200 : {t v : ℤ} → SFits w64 t → SFits w64 v → v ≡ psi_value coldest → {b : Bool} → lt_z (to_z w64 (of_z w64 t)) (to_z w64 (of_z w64 v)) ≡ b → lt_z t (psi_value coldest) ≡ b
+below_200 f g q e = rw q at (lt_read f g e)
 
-  from_200 : psi_value coldest ≤ℤ c.before.before.before.before.before.before.before.before.args.target
-  from_200 = omega (zed, at_200 c.before.before.before.before c.before.before.before.if2.false)
-
-  to_2000 : c.before.before.before.before.before.before.before.before.args.target ≤ℤ psi_value hottest
-  to_2000 = omega (zed, at_2000 c.before c.if3.false)
+above_2000 : {t v : ℤ} → SFits w64 t → SFits w64 v → v ≡ psi_value hottest → {b : Bool} → lt_z (to_z w64 (of_z w64 v)) (to_z w64 (of_z w64 t)) ≡ b → lt_z (psi_value hottest) t ≡ b
+above_2000 f g q e = rw q at (lt_read g f e)
 
 pub returns-then-looks-lt-LOOK_PLACES : goal.returns-then-looks-lt-LOOK_PLACES
 returns-then-looks-lt-LOOK_PLACES c = psi_refused _ _ (Refused (Plain 10)) (here (lt-ltb _ look_places c.if-looks-lt-LOOK_PLACES.true)) refl
 
 pub returns-then-target-of_u64 : goal.returns-then-target-of_u64
-returns-then-target-of_u64 c = let room : ltb (length c.args.looks.now) look_places ≡ false =
-    le-ltb _ look_places c.if-looks-lt-LOOK_PLACES.false in
-    let at_200 : {t : Bool} → lt_z (to_z w64 (of_z w64 c.args.target)) (to_z w64 (of_z w64 c.of_u64.result)) ≡ t → lt_z c.args.target (psi_value coldest) ≡ t =
-    λ e. let f : SFits w64 c.of_u64.result = search rules in
+returns-then-target-of_u64 c =
+    let f : SFits w64 c.of_u64.result = search rules in
     let q = psi_end first_kelvin (omega arith) c.requires c.figure.ensures.0 c.of_u64.ensures in
-    rw q at (lt_read c.ranges.target f e) in
-    psi_refused _ _ (Refused (Plain 8)) (after room (here (at_200 c.if-target-of_u64.true))) refl
+    psi_refused _ _ (Refused (Plain 8)) (after (le-ltb _ look_places c.if-looks-lt-LOOK_PLACES.false) (here (below_200 c.ranges.target f q c.if-target-of_u64.true))) refl
 
 pub returns-then-of_u64-target : goal.returns-then-of_u64-target
-returns-then-of_u64-target c = let room : ltb (length c.args.looks.now) look_places ≡ false =
-    le-ltb _ look_places c.if-looks-lt-LOOK_PLACES.false in
-    let at_200 : {t : Bool} → lt_z (to_z w64 (of_z w64 c.args.target)) (to_z w64 (of_z w64 c.of_u64.result)) ≡ t → lt_z c.args.target (psi_value coldest) ≡ t =
-    λ e. let f : SFits w64 c.of_u64.result = search rules in
+returns-then-of_u64-target c =
+    let f : SFits w64 c.of_u64.result = search rules in
     let q = psi_end first_kelvin (omega arith) c.requires c.figure.ensures.0 c.of_u64.ensures in
-    rw q at (lt_read c.ranges.target f e) in
-    let at_2000 : {t : Bool} → lt_z (to_z w64 (of_z w64 c.of_u64-2.result)) (to_z w64 (of_z w64 c.args.target)) ≡ t → lt_z (psi_value hottest) c.args.target ≡ t =
-    λ e. let f : SFits w64 c.of_u64-2.result = search rules in
-    let q = psi_end last_kelvin (omega arith) c.requires c.figure-2.ensures.0 c.of_u64-2.ensures in
-    rw q at (lt_read f c.ranges.target e) in
-    psi_refused _ _ (Refused (Plain 9)) (after room (after (at_200 c.if-target-of_u64.false) (here (at_2000 c.if-of_u64-target.true)))) refl
+    let f2 : SFits w64 c.of_u64-2.result = search rules in
+    let q2 = psi_end last_kelvin (omega arith) c.requires c.figure-2.ensures.0 c.of_u64-2.ensures in
+    psi_refused _ _ (Refused (Plain 9))
+    (after (le-ltb _ look_places c.if-looks-lt-LOOK_PLACES.false)
+    (after (below_200 c.ranges.target f q c.if-target-of_u64.false) (here (above_2000 c.ranges.target f2 q2 c.if-of_u64-target.true))))
+    refl
 
 pub to_u64-requires : goal.to_u64-requires
-to_u64-requires c = rw (back c.ranges.target) (omega (zed, apart c.args.target, from_200 c))
+to_u64-requires c =
+    let f : SFits w64 c.of_u64.result = search rules in
+    let q = psi_end first_kelvin (omega arith) c.requires c.figure.ensures.0 c.of_u64.ensures in
+    let from_200 : psi_value coldest ≤ℤ c.args.target = omega (zed, below_200 c.ranges.target f q c.if-target-of_u64.false) in
+    rw (back c.ranges.target) (omega (zed, apart c.args.target, from_200))
 
 pub psi_reached-requires : goal.psi_reached-requires
-psi_reached-requires c = let e = c.to_u64.ensures ∙ back c.ranges.target in
-    (c.requires, omega arith, omega (zed, e, from_200 c, psi_whole first_kelvin (omega arith)), omega (zed, e, to_2000 c, psi_whole last_kelvin (omega arith)))
+psi_reached-requires c =
+    let e = c.to_u64.ensures ∙ back c.ranges.target in
+    let f : SFits w64 c.of_u64.result = search rules in
+    let q = psi_end first_kelvin (omega arith) c.requires c.figure.ensures.0 c.of_u64.ensures in
+    let f2 : SFits w64 c.of_u64-2.result = search rules in
+    let q2 = psi_end last_kelvin (omega arith) c.requires c.figure-2.ensures.0 c.of_u64-2.ensures in
+    let from_200 : psi_value coldest ≤ℤ c.args.target = omega (zed, below_200 c.ranges.target f q c.if-target-of_u64.false) in
+    let to_2000 : c.args.target ≤ℤ psi_value hottest = omega (zed, above_2000 c.ranges.target f2 q2 c.if-of_u64-target.false) in
+    (c.requires, omega arith, omega (zed, e, from_200, psi_whole first_kelvin (omega arith)), omega (zed, e, to_2000, psi_whole last_kelvin (omega arith)))
 
 pub returns : goal.returns
-returns c = let e = c.to_u64.ensures ∙ back c.ranges.target in
-    psi_answered c.args.target c.args.looks.now (cleared c) e (rw e (from_200 c)) c.psi_reached.ensures
+returns c =
+    let e = c.to_u64.ensures ∙ back c.ranges.target in
+    let f : SFits w64 c.of_u64.result = search rules in
+    let q = psi_end first_kelvin (omega arith) c.requires c.figure.ensures.0 c.of_u64.ensures in
+    let f2 : SFits w64 c.of_u64-2.result = search rules in
+    let q2 = psi_end last_kelvin (omega arith) c.requires c.figure-2.ensures.0 c.of_u64-2.ensures in
+    let b = below_200 c.ranges.target f q c.if-target-of_u64.false in
+    let from_200 : psi_value coldest ≤ℤ c.args.target = omega (zed, b) in
+    let cleared : Clear (psi_order (length c.args.looks.now) c.args.target) =
+    clear (le-ltb _ look_places c.if-looks-lt-LOOK_PLACES.false) (clear b (clear (above_2000 c.ranges.target f2 q2 c.if-of_u64-target.false) none)) in
+    psi_answered c.args.target c.args.looks.now cleared e (rw e from_200) c.psi_reached.ensures

@@ -17,26 +17,26 @@ without l row h p = rw (rows_last l row h) at p
 
 pub loop-row-init : goal.loop-row-init
 loop-row-init c = (
-      omega arith,
-      subst (λ (x : List ℕ). Behind (sheet_text c.args.list.now) x c.args.buf.now c.args.bytes c.args.bytes c.args.buf.now)
-          (sym (rows_all c.args.list.now table_rows refl)) (behind_all (sheet_text c.args.list.now) c.args.bytes c.requires.2),
-    )
+  omega arith,
+  subst (λ (x : List ℕ). Behind (sheet_text c.args.list.now) x c.args.buf.now c.args.bytes c.args.bytes c.args.buf.now)
+      (sym (rows_all c.args.list.now table_rows refl)) (behind_all (sheet_text c.args.list.now) c.args.bytes c.requires.2),
+)
 
 pub end_with_row-end-requires : goal.end_with_row-end-requires
-end_with_row-end-requires c = let l = c.loop-row in 
-    let list = c.args.list.now in 
+end_with_row-end-requires c = let l = c.loop-row in
+    let list = c.args.list.now in
     let w = without list l.row (omega arith) l.invariant.1 in
     (omega (arith, behind_room (omega arith) w, length-append (rows_of (l.row - 1) list) (row_at list (l.row - 1))), behind_inside w)
 
 pub loop-row-preserved : goal.loop-row-preserved
-loop-row-preserved c = let l = c.loop-row in 
+loop-row-preserved c = let l = c.loop-row in
     (omega arith, behind_more (without c.args.list.now l.row (omega arith) l.invariant.1) c.end_with_row-end.ensures)
 
 pub shape_of-buf : goal.shape_of-buf
 shape_of-buf c = stands_length c.loop-row.invariant.1.stands
 
 pub returns : goal.returns
-returns c = let l = c.loop-row in 
+returns c = let l = c.loop-row in
     let none : l.row ≡ 0 = omega arith in
     let s = behind_nothing (rw none at l.invariant.1) in
     let from : l.end ≡ 0 = omega (arith, s.ends) in

@@ -1,6 +1,6 @@
 -- `write_text`: from the last row to the first, each right before what stands (`rows_last`); then the whole text does, from place 0 on.
 -- Invariant: what follows the first rows stands in the buffer. Measure: the rows that are left.
-use Prim.Native.Nat.{◌-◌, ◌≤◌}
+use Prim.Native.Nat.{◌≤◌}
 use Rattle.rows.specs.Limits.{table_rows}
 use Rattle.text.specs.Puts.{Behind}
 use Rattle.sheet_text.specs.Text.{rows_of, sheet_text}
