@@ -2,10 +2,9 @@
 use mathlib.Core.Path.{◌≡◌, sym, ap, ◌∙◌}
 use native.Mathlib.Omega.{arith}
 use lib.ListN.{length}
-use Rattle.refusal.specs.declared.Refusal.TheVariants.{Plain}
 use Rattle.refusal.specs.Refusals.{gives, first}
 use Rattle.refusal.specs.OrdersLaws.{given}
-use Rattle.gas.specs.AnswersLaws.{searchable_of, past_search, short_search, stopped_told, passed_told}
+use Rattle.gas.specs.AnswersLaws.{searchable_of, past_search, stopped_told, passed_told}
 use Rattle.burning.specs.Answers.{paper_gas}
 use Rattle.gas.specs.Answers.{search_order}
 use Rattle.gas.specs.Heat.{gas_heat}
