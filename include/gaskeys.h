@@ -1,6 +1,6 @@
 /* The calls of the gas keys, for C and for whatever calls C.
  *
- * Link target/staticlib/libcapi.a, which `rt staticlib capi` writes for x86-64 Linux: it needs nothing else but memcpy and memset.
+ * Link target/staticlib/libcapi.a, which `tools/build capi` writes for x86-64 Linux: it needs nothing else but memcpy and memset.
  *
  * Every call takes every input and never fails otherwise than by a refusal. What each one answers is proved: crates/capi has the promises,
  * docs/PROMISES.md where they are proved, bindings/c/example.c how the calls are used.

@@ -1,13 +1,14 @@
 """How the files that are made from the transcripts are laid out, stored and checked."""
 import sys
+import textwrap
 
 from scan import ROOT
 
 
 def constant(name, kind, length, numbers):
-    """A constant array of the crate's source under the name of its length, one number a line."""
-    lines = [f'const {name}: [{kind}; {length}] = [', *(f'    {number},' for number in numbers), '];']
-    return '\n'.join(lines) + '\n'
+    """A constant array of the crate's source under the name of its length, as `rt fmt` lays it out."""
+    rows = textwrap.fill(' '.join(f'{number},' for number in numbers), 100, initial_indent='    ', subsequent_indent='    ')
+    return f'const {name}: [{kind}; {length}] = [\n{rows}\n];\n'
 
 
 def definition(name, kind, items, width):

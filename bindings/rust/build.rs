@@ -11,7 +11,7 @@ fn main() {
     });
     let archive = folder.join("libcapi.a");
     println!("cargo:rerun-if-changed={}", archive.display());
-    assert!(archive.is_file(), "{} is not there: `rt staticlib capi` makes it", archive.display());
+    assert!(archive.is_file(), "{} is not there: `tools/build capi` makes it", archive.display());
     println!("cargo:rustc-link-search=native={}", folder.display());
     println!("cargo:rustc-link-lib=static=capi");
 }

@@ -8,7 +8,7 @@
 //! pieces, which is the caller's own; calls may be made from any number of threads.
 //!
 //! The archive is looked for in the folder GASKEYS_LIB, else in the project's target/staticlib,
-//! where `rt staticlib capi` puts it. One of another version than [`raw::VERSION`] does not link.
+//! where `tools/build capi` puts it. One of another version than [`raw::VERSION`] does not link.
 
 mod air;
 mod gas;

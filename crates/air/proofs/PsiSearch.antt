@@ -14,7 +14,7 @@ use Rattle.signed.specs.Zed.{up, apart, plain, zed}
 use Rattle.rows.specs.Limits.{first_kelvin, last_kelvin}
 use Rattle.rows.specs.Rows.{rows_psi}
 use Rattle.rows.specs.Table.{column, air_psi}
-use Rattle.rows.specs.TableLaws.{psi_grows}
+use Rattle.rows.proofs.TableLaws.{psi_grows}
 use Rattle.air.specs.Limits.{look_places, coldest, hottest}
 use Rattle.air.specs.declared.PsiAnswer.{PsiAnswer}
 use Rattle.air.specs.declared.PsiAnswer.TheVariants.{At}

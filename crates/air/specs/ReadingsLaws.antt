@@ -7,7 +7,7 @@ use native.Mathlib.Omega.{arith}
 use Rattle.rows.specs.Limits.{first_kelvin, last_kelvin}
 use Rattle.rows.specs.Rows.{rows_h, rows_psi}
 use Rattle.rows.specs.Table.{column, air_h, air_psi}
-use Rattle.rows.specs.TableLaws.{h_grows, psi_grows}
+use Rattle.rows.proofs.TableLaws.{h_grows, psi_grows}
 use Rattle.air.specs.Limits.{coldest, hottest}
 use Rattle.air.specs.Readings.{reading, between, air_heat, air_psi_at, NeverFalls}
 use Rattle.air.specs.Inverse.{Straight}

@@ -1,6 +1,5 @@
 -- No two outcomes satisfy the promise of the call on a charge, over any weights. Assumes nothing.
 use Rattle.std.specs.Prelude.{◌≡◌, refl}
-use Rattle.std.proofs.Common.{sym, ◌∙◌}
 use Rattle.refusal.specs.Refusals.{Told, gives, refused}
 use Rattle.refusal.specs.RefusalsLaws.{one_told}
 use Rattle.burning.specs.declared.Charge.{Charge}

@@ -15,7 +15,7 @@ use Rattle.signed.specs.Zed.{up, dn, Is, is_self, is_minus, up_most, fits_from, 
 use Rattle.signed.specs.NearestLaws.{nearest_up, nearest_dn}
 use Rattle.rows.specs.Rows.{rows_h}
 use Rattle.rows.specs.Table.{column, air_h}
-use Rattle.rows.specs.TableLaws.{h_grows}
+use Rattle.rows.proofs.TableLaws.{h_grows}
 use Rattle.rows.specs.GrowthLaws.{grows}
 use Rattle.air.specs.Limits.{fifteen_degrees, coldest, hottest}
 use Rattle.air.specs.Readings.{reading, between, air_heat, NeverFalls}

@@ -7,7 +7,7 @@ use native.Mathlib.Omega.{arith}
 use Rattle.signed.specs.Zed.{up, dn, Is, is_pos, is_self, is_add, is_minus, is_mul, dn_none, same_by, le_z_true, apart, zed}
 use Rattle.rows.specs.Limits.{first_kelvin, last_kelvin}
 use Rattle.rows.specs.Table.{air_h}
-use Rattle.rows.specs.TableLaws.{h_grows, h_most}
+use Rattle.rows.proofs.TableLaws.{h_grows, h_most}
 use Rattle.air.specs.Limits.{coldest, hottest}
 use Rattle.air.specs.Readings.{reading, between, air_heat}
 use Rattle.air.specs.ReadingsLaws.{between_rows, between_last, between_whole, between_line}

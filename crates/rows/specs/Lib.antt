@@ -3,4 +3,3 @@ pub mod Rows
 pub mod Table
 pub mod Growth
 pub mod GrowthLaws
-pub mod TableLaws

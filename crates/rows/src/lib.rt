@@ -1,6 +1,6 @@
 // Table 1 of R. & M. 3099: H, Cp, psi and H15 of dry air for each whole kelvin from 200 to 2,000, mended as docs/AIR-TABLE.md lists.
 // Each column is a constant tied to its list in specs/Rows.antt and handed out by value, to be named once and lent down.
-// The rules of every row (document 01, "The air table") are computed once over the lists, and specs/TableLaws.antt carries them to each kelvin.
+// The rules of every row (document 01, "The air table") are computed once over the lists, and proofs/TableLaws.antt carries them to each kelvin.
 #![tactic(auto)]
 
 pub mod columns;

@@ -8,7 +8,7 @@ use native.Mathlib.Omega.{arith}
 use Rattle.refusal.specs.Refusals.{refuses_at}
 use Rattle.rows.specs.Limits.{first_kelvin, last_kelvin, table_rows}
 use Rattle.rows.specs.Table.{air_h}
-use Rattle.rows.specs.TableLaws.{h_grows, h_most, h_first}
+use Rattle.rows.proofs.TableLaws.{h_grows, h_most, h_first}
 use Rattle.sheet_text.specs.Limits.{most_figure, sheet_numbers}
 use Rattle.sheet_text.specs.Text.{Numbers}
 use Rattle.sheet.specs.Answers.{judge_told}

@@ -1,8 +1,7 @@
 -- Laws of taking lines: a taking goes on, so that a piece comes to its end; a line that fits is held byte for byte, and one that does not is too long. Assumes nothing.
-use Rattle.std.specs.Prelude.{ℕ, suc, ◌+◌, ◌<◌, ◌≤◌, Bool, true, false, List, [], ◌∷◌, ◌≡◌, refl, eqb, ltb, length, drop, get_or, set}
+use Rattle.std.specs.Prelude.{ℕ, suc, ◌+◌, ◌<◌, ◌≤◌, Bool, true, false, List, [], ◌∷◌, ◌≡◌, refl, ltb, length, drop, get_or, set}
 use Rattle.std.proofs.Common.{ap, ◌∙◌, arith, add-one, lt-ltb, ltb-true, eq-eqb, ne_eqb, length-set, length-drop, drop-cons}
 use Rattle.std.proofs.lemmas.List.Edits.{sets}
-use Rattle.stream.specs.declared.Held.{Held}
 use Rattle.stream.specs.declared.Held.TheVariants.{Bytes, Over}
 use Rattle.stream.specs.Taking.{line_in, ends, pushed_all}
 

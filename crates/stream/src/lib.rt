@@ -7,7 +7,11 @@ ghost use Rattle.stream.specs.Taking.{pushed, Takes, Inside};
 ghost use Rattle.stream.specs.Reading.{piece_of, nothing_read, Reads, last_line, taken_with, over_with};
 ghost use Rattle.stream.specs.Writing.{outcome_of, Within, after_write, Flushed, Roomed, Free, Leaves};
 
-use libc::{EAGAIN, EINTR, STDERR_FILENO, STDOUT_FILENO};
+mod failure;
+
+pub use failure::fail;
+use std::io::{Error, ErrorKind, Print, Read};
+use std::thread;
 
 // A line that is still read: how many of its bytes are held, or that there were too many.
 #[derive(Clone, Copy)]
@@ -73,18 +77,16 @@ pub enum Got {
 }
 
 // Reads a piece of an input as it comes; a failure's line names the input.
-pub fn read_some(fd: i32, what: &[u8], piece: &mut [u8]) -> Got
+pub fn read_some<R: Read, E: Print>(input: &mut R, errors: &E, what: &[u8], piece: &mut [u8]) -> Got
     ensures { Inside result piece.new }
 {
-    let got = libc::read(fd, piece);
-    if got < 0 {
-        os::fail(what);
-        return Got::Failed;
+    match input.read(piece) {
+        Ok(n) => if n == 0 { Got::End } else { Got::Bytes(n) },
+        Err(why) => {
+            fail(errors, what, &why);
+            Got::Failed
+        }
     }
-    if got == 0 {
-        return Got::End;
-    }
-    Got::Bytes(io::count(got, piece))
 }
 
 // The output of a run: where its next byte goes, or that a write failed. Nothing is put and nothing is written after a failure, so what came out is a start of the answers.
@@ -103,14 +105,12 @@ enum Wrote {
 }
 
 // Whether a write that took nothing may be tried again: where a signal interrupted it, or a pipe that does not block is full.
-fn passes(got: isize, error: i32) -> bool {
-    if got == 0 {
-        return false;
+fn passes(why: &Error) -> bool {
+    match why.kind() {
+        ErrorKind::Interrupted => true,
+        ErrorKind::WouldBlock => true,
+        _ => false,
     }
-    if error == EINTR {
-        return true;
-    }
-    error == EAGAIN
 }
 
 // What a write came to, by how many bytes it took.
@@ -123,17 +123,23 @@ fn outcome(taken: usize, again: bool) -> Wrote
     if again { Wrote::Nothing } else { Wrote::Failed }
 }
 
-// One write of a part of a buffer.
-fn write_part(fd: i32, part: &[u8]) -> Wrote
+// One write of a part of a buffer; `why` is its error, where it has one.
+fn write_part<W: Print>(to: &W, part: &[u8], why: &mut Error) -> Wrote
     ensures { Within result part.now }
 {
-    let got = libc::write(fd, part);
-    let again = passes(got, os::errno());
-    outcome(io::count(got, part), again)
+    match to.write_some(part) {
+        Ok(taken) => outcome(taken, false),
+        Err(error) => {
+            let again = passes(&error);
+            *why = error;
+            outcome(0, again)
+        }
+    }
 }
 
-// Writes the first bytes of a buffer, and goes on from where a write stopped. Answers whether all were taken. Its turns are counted down, from a number that no run uses up.
-fn write_first(fd: i32, out: &[u8], end: usize) -> bool
+// Writes the first bytes of a buffer, and goes on from where a write stopped. Answers whether all were taken, and where they were not `why` is the last error. Its turns are
+// counted down, from a number that no run uses up.
+fn write_first<W: Print>(to: &W, out: &[u8], end: usize, why: &mut Error) -> bool
     requires { end ≤ length out.now }
 {
     let mut from = 0;
@@ -143,12 +149,12 @@ fn write_first(fd: i32, out: &[u8], end: usize) -> bool
             return true;
         }
         turns -= 1;
-        match write_part(fd, &out[from..end]) {
+        match write_part(to, &out[from..end], why) {
             Wrote::Took(n) => {
                 from += n;
             }
             Wrote::Nothing => {
-                libc::sched_yield();
+                thread::yield_now();
             }
             Wrote::Failed => {
                 return false;
@@ -165,36 +171,43 @@ fn after(whole: bool) -> Output
     if whole { Output::At(0) } else { Output::Closed }
 }
 
+// No error yet: what a write that takes nothing and has no error is told as.
+fn no_error() -> Error {
+    Error::from_raw_os_error(0)
+}
+
 // Writes what is filled of the output. Answers where to go on: at the start, or nowhere, after a line on standard error.
-pub fn flush(out: &[u8], output: Output) -> Output
+pub fn flush<W: Print, E: Print>(to: &W, errors: &E, out: &[u8], output: Output) -> Output
     ensures { Flushed output result }
 {
     let Output::At(at) = output else {
         return Output::Closed;
     };
-    let whole = write_first(STDOUT_FILENO, out, bounded(at, out));
+    let mut why = no_error();
+    let whole = write_first(to, out, bounded(at, out), &mut why);
     if !whole {
-        os::fail(b"standard output");
+        fail(errors, b"standard output", &why);
     }
     after(whole)
 }
 
 // Flushes where less than half of the output is free. Answers where to go on.
-pub fn make_room(out: &[u8], output: Output) -> Output
+pub fn make_room<W: Print, E: Print>(to: &W, errors: &E, out: &[u8], output: Output) -> Output
     ensures { Roomed output out.now result }
 {
     let Output::At(at) = output else {
-        return flush(out, Output::Closed);
+        return flush(to, errors, out, Output::Closed);
     };
     if at < out.len() / 2 {
         return Output::At(at);
     }
-    flush(out, Output::At(at))
+    flush(to, errors, out, Output::At(at))
 }
 
 // Writes what is filled of a buffer to standard error. Nothing is left to say where that fails.
-pub fn say(out: &[u8], at: usize) {
-    write_first(STDERR_FILENO, out, bounded(at, out));
+pub fn say<E: Print>(errors: &E, out: &[u8], at: usize) {
+    let mut why = no_error();
+    write_first(errors, out, bounded(at, out), &mut why);
 }
 
 // A place of the buffer, or its end.
@@ -247,14 +260,21 @@ pub fn unread() -> Reader
 }
 
 // Reads the next piece; none after the input's end, nor where the output is closed.
-fn read_next(fd: i32, what: &[u8], piece: &mut [u8], ended: bool, output: Output) -> Got
+fn read_next<R: Read, E: Print>(
+    input: &mut R,
+    errors: &E,
+    what: &[u8],
+    piece: &mut [u8],
+    ended: bool,
+    output: Output,
+) -> Got
     ensures { Reads ended output piece.old result piece.new }
 {
     if ended {
         return Got::End;
     }
     match output {
-        Output::At(_) => read_some(fd, what, piece),
+        Output::At(_) => read_some(input, errors, what, piece),
         Output::Closed => Got::Failed,
     }
 }
@@ -303,8 +323,10 @@ fn over(line: Line, output: Output) -> Next
 
 // The next line of an input. Before each read what is filled of the output is written, so that whoever asks has the answers. A proved loop has to end, and nothing says
 // that the input does: so it counts its turns down, from a number that no run uses up.
-pub fn next_line(
-    fd: i32,
+pub fn next_line<R: Read, W: Print, E: Print>(
+    input: &mut R,
+    to: &W,
+    errors: &E,
     what: &[u8],
     reader: Reader,
     piece: &mut [u8],
@@ -328,8 +350,8 @@ pub fn next_line(
         if taken.whole {
             return taken_with(held, taken.next, reader, output);
         }
-        output = flush(out, output);
-        match read_next(fd, what, piece, ended, output) {
+        output = flush(to, errors, out, output);
+        match read_next(input, errors, what, piece, ended, output) {
             Got::Bytes(n) => reader = piece_of(n),
             Got::End => return over(last_line(held), output),
             Got::Failed => return over(Line::Unread, output),

@@ -16,7 +16,7 @@ burnt-requires c = let given_gas : gives c.in-Burning.gas ≡ first (charge_line
 pub returns-in-Burning : goal.returns-in-Burning
 returns-in-Burning c = let given_gas : gives c.in-Burning.gas ≡ first (charge_lines document01 c.args.charge) (gas_of c.args.charge) =
     ap paper_gas (sym c.in-Burning.is) ∙ c.admit.ensures in
-    let ch = c.args.charge in 
+    let ch = c.args.charge in
     told_through (charge_lines document01 ch) (gas_of ch) (products document01) given_gas c.burnt.ensures
 
 pub returns-in-Refused : goal.returns-in-Refused

@@ -6,6 +6,6 @@ use Rattle.fields.specs.FieldsLaws.{return_span}
 use Rattle.fields.proofs.holds_return.Goals as goal
 
 pub returns : goal.returns
-returns c = let line = c.args.line.now in 
+returns c = let line = c.args.line.now in
     let e : c.place_of.result ≡ span_to 13 line = omega (arith, c.place_of.ensures) in
     rw e (sym (return_span line))

@@ -1,6 +1,5 @@
 -- `place_of`: the first byte of the kind at or after `from`, or the line's end, is where the span ends.
 use Rattle.fields.specs.FieldsLaws.{span_here, span_more, span_end}
-use Prim.Native.Nat.{◌-◌}
 use mathlib.Core.Path.{refl}
 use native.Mathlib.Omega.{arith}
 use Rattle.fields.proofs.place_of.Goals as goal

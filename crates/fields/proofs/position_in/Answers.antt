@@ -3,7 +3,8 @@ use Rattle.fields.specs.WordsLaws.{position_all, position_at, position_none}
 use Rattle.fields.specs.FieldsLaws.{span_from}
 use mathlib.Core.Bool.{true, false}
 use native.Mathlib.Omega.{arith}
-use Prim.Native.Nat.{◌-◌}
+use Rattle.std.proofs.lemmas.Bool.Decides.{Decides-eqb}
+use Rattle.std.proofs.lemmas.Slice.Eq.{slice_eq-Decides}
 use Rattle.fields.proofs.position_in.Goals as goal
 
 pub loop-from-init : goal.loop-from-init
@@ -20,11 +21,11 @@ slice_bounds-eq-end c = omega (arith, c.field_end-end.ensures, span_from c.args.
 
 pub returns-then-eq : goal.returns-then-eq
 returns-then-eq c = omega (
-      arith,
-      c.loop-from.invariant.1,
-      position_at c.args.word.now c.args.text.now c.loop-from.from c.field_end-end.result true (omega arith)
-          c.field_end-end.ensures c.eq.ensures c.if-eq.true,
-    )
+  arith,
+  c.loop-from.invariant.1,
+  position_at c.args.word.now c.args.text.now c.loop-from.from c.field_end-end.result true (omega arith)
+      c.field_end-end.ensures (slice_eq-Decides Decides-eqb _ _ _ c.eq.ensures) c.if-eq.true,
+)
 
 pub overflow_add-from : goal.overflow_add-from
 overflow_add-from c = omega (arith, c.field_end-end.ensures, span_from c.args.text.now c.loop-from.from (omega arith))
@@ -34,14 +35,14 @@ loop-from-smaller c = omega (arith, c.field_end-end.ensures)
 
 pub loop-from-preserved : goal.loop-from-preserved
 loop-from-preserved c = (
-      omega (arith, c.field_end-end.ensures),
-      omega (
-        arith,
-        c.loop-from.invariant.1,
-        position_at c.args.word.now c.args.text.now c.loop-from.from c.field_end-end.result false (omega arith)
-            c.field_end-end.ensures c.eq.ensures c.if-eq.false,
-      ),
-    )
+  omega (arith, c.field_end-end.ensures),
+  omega (
+    arith,
+    c.loop-from.invariant.1,
+    position_at c.args.word.now c.args.text.now c.loop-from.from c.field_end-end.result false (omega arith)
+        c.field_end-end.ensures (slice_eq-Decides Decides-eqb _ _ _ c.eq.ensures) c.if-eq.false,
+  ),
+)
 
 pub returns : goal.returns
 returns c = omega (arith, c.loop-from.invariant.1, position_none c.args.word.now c.args.text.now c.loop-from.from (omega arith))

@@ -9,7 +9,7 @@ use Prim.Native.Nat.{◌≤◌, ◌-◌, ◌+◌}
 use Rattle.fields.proofs.position_in.Given as goal
 
 abbrev pub invariant-loop-from : goal.invariant-loop-from
-invariant-loop-from l = (n ≤ from) × (position_of word (fields_of text) ≡ n + position_of word (fields_from text from))
+invariant-loop-from l = (l.n ≤ l.from) × (position_of l.word (fields_of l.text) ≡ l.n + position_of l.word (fields_from l.text l.from))
 
 abbrev pub decreases-loop-from : goal.decreases-loop-from
-decreases-loop-from l = length text + 1 - from
+decreases-loop-from l = length l.text + 1 - l.from

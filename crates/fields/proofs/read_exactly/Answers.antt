@@ -4,6 +4,6 @@ use Rattle.fields.proofs.read_exactly.Goals as goal
 
 pub returns : goal.returns
 returns c = let r = c.read_numbers.ensures in record {
-      value = rw r.0 at c.counted.ensures;
-      stored = rw r.0 at r.1;
-    }
+  value = rw r.value at c.counted.ensures;
+  stored = rw r.value at r.stored;
+}

@@ -32,17 +32,17 @@ pub shape_of-list-in_default : goal.shape_of-list-in_default
 shape_of-list-in_default c = c.loop-p.invariant.1
 
 pub returns-in_default : goal.returns-in_default
-returns-in_default c =  record {
-      value = sym
-          (c.loop-p.invariant.2
-          ∙ count_bad c.args.line.now c.loop-p.p c.field_end-e.result c.loop-p.n (omega arith)
-          c.field_end-e.ensures (sym c.read_whole.ensures ∙ c.in_default.is));
-      stored = sym
-          (c.loop-p.invariant.3
-          ∙ ap (λ x. sets c.loop-p.list c.loop-p.n x)
-          (leading_bad c.args.line.now c.loop-p.p c.field_end-e.result (omega arith) c.field_end-e.ensures
-          (sym c.read_whole.ensures ∙ c.in_default.is)));
-    }
+returns-in_default c = record {
+  value = sym
+      (c.loop-p.invariant.2
+      ∙ count_bad c.args.line.now c.loop-p.p c.field_end-e.result c.loop-p.n (omega arith)
+      c.field_end-e.ensures (sym c.read_whole.ensures ∙ c.in_default.is));
+  stored = sym
+      (c.loop-p.invariant.3
+      ∙ ap (λ x. sets c.loop-p.list c.loop-p.n x)
+      (leading_bad c.args.line.now c.loop-p.p c.field_end-e.result (omega arith) c.field_end-e.ensures
+      (sym c.read_whole.ensures ∙ c.in_default.is)));
+}
 
 pub overflow_add-p : goal.overflow_add-p
 overflow_add-p c = omega (arith, c.field_end-e.ensures, span_from c.args.line.now c.loop-p.p (omega arith))

@@ -13,7 +13,7 @@ use borrow.Author.Rules.{rules}
 use Rattle.fields.proofs.read_two.Goals as goal
 
 pub returns-then-read_exactly : goal.returns-then-read_exactly
-returns-then-read_exactly c = let l = c.read_exactly.new.list in 
+returns-then-read_exactly c = let l = c.read_exactly.new.list in
     let f0 : SFits w64 (get_or l 0 (pos 0)) = search rules in
     let f1 : SFits w64 (get_or l 1 (pos 0)) = search rules in
     rw (back f0, back f1)

@@ -27,7 +27,7 @@ mark_number-requires c = let number_is : scaled_of c.args.typed ≡ Number c.in-
     (sym (in_plain (neg_ℤ (pos 1000000000000)) (pos 1000000000000) c.ranges.key c.inside.ensures) ∙ c.if-not-inside.false)
     (sym (in_plain (pos 0) (pos 100000) c.ranges.window c.inside-2.ensures) ∙ c.if-not-inside-2.false) in
     let b = subst Sound number_is (sound c.args.typed) in
-    (b.0, (b.1, rw (back c.ranges.key, back c.ranges.window) in_range))
+    record { fact_1 = b.0; fact_2 = b.1; fact_3 = rw (back c.ranges.key, back c.ranges.window) in_range }
 
 pub returns-in-Number : goal.returns-in-Number
 returns-in-Number c = let in_range : out_of_range c.args.key c.args.window ≡ false =
@@ -36,7 +36,7 @@ returns-in-Number c = let in_range : out_of_range c.args.key c.args.window ≡ f
     (sym (in_plain (pos 0) (pos 100000) c.ranges.window c.inside-2.ensures) ∙ c.if-not-inside-2.false) in
     let number_is : scaled_of c.args.typed ≡ Number c.in-Number.scale c.in-Number.x =
     sym c.at_scale.ensures ∙ c.in-Number.is in
-    let a = c.args in 
+    let a = c.args in
     (rw (back c.ranges.key, back c.ranges.window) at c.mark_number.ensures)
     ∙ sym (by_scale a.typed a.key a.window in_range ∙ ap (λ (n : Scaled). told_of n a.key a.window) number_is)
 
@@ -45,7 +45,7 @@ returns-in-Nothing c = let in_range : out_of_range c.args.key c.args.window ≡ 
     both_inside c.args.key c.args.window
     (sym (in_plain (neg_ℤ (pos 1000000000000)) (pos 1000000000000) c.ranges.key c.inside.ensures) ∙ c.if-not-inside.false)
     (sym (in_plain (pos 0) (pos 100000) c.ranges.window c.inside-2.ensures) ∙ c.if-not-inside-2.false) in
-    let a = c.args in 
+    let a = c.args in
     sym
     (by_scale a.typed a.key a.window in_range
     ∙ ap (λ (n : Scaled). told_of n a.key a.window) (sym c.at_scale.ensures ∙ c.in-Nothing.is))

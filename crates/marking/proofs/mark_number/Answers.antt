@@ -28,7 +28,7 @@ pub fields_of-fields-requires : goal.fields_of-fields-requires
 fields_of-fields-requires c = no_nan c.args.x c.if-x.false
 
 pub returns-then-fields-eq2047 : goal.returns-then-fields-eq2047
-returns-then-fields-eq2047 c = let p = c.fields_of-fields in 
+returns-then-fields-eq2047 c = let p = c.fields_of-fields in
     let top : of_fields binary64 p.result.negative 2047 p.result.fraction ≡ c.args.x = rw c.if-fields-eq2047.true at p.ensures.is in
     sym (rw (sym (ap finite top) ∙ top_none p.result.negative p.result.fraction) refl)
 
@@ -56,39 +56,44 @@ lies-requires c = let in_range : Ranged c.args.key c.args.window =
     ranged c.args.key c.args.window c.requires.fact_3 in
     let middle : to_z w64 (of_z w64 c.turn-middle.result) ≡ turned c.fields_of-fields.result.negative c.args.key =
     rw (c.turn-middle.ensures, back c.ranges.key) (back (turned_fits c.fields_of-fields.result.negative in_range)) in
-    let p = c.fields_of-fields in 
-    (c.requires.fact_1, (c.requires.fact_2, (p.ensures.fraction_lt, rw (back (add-lies c), middle, back c.ranges.window) (high_most p.result.negative in_range))))
+    let p = c.fields_of-fields in
+    record {
+      fact_1 = c.requires.fact_1;
+      fact_2 = c.requires.fact_2;
+      fact_3 = p.ensures.fraction_lt;
+      fact_4 = rw (middle, back c.ranges.window, back (high_fits p.result.negative in_range)) (high_most p.result.negative in_range);
+    }
 
 pub returns-then-lies : goal.returns-then-lies
 returns-then-lies c = let value : let p = c.fields_of-fields.result in HasValue c.args.x p.negative (sized p.exponent p.fraction) (2 ^ 1074) =
-    let p = c.fields_of-fields in 
+    let p = c.fields_of-fields in
     rw p.ensures.is at (fields_value p.result.negative p.result.exponent p.result.fraction (omega (arith, p.ensures.exponent_lt, c.if-fields-eq2047.false))) in
     let in_range : Ranged c.args.key c.args.window =
     ranged c.args.key c.args.window c.requires.fact_3 in
     let middle : to_z w64 (of_z w64 c.turn-middle.result) ≡ turned c.fields_of-fields.result.negative c.args.key =
     rw (c.turn-middle.ensures, back c.ranges.key) (back (turned_fits c.fields_of-fields.result.negative in_range)) in
     let told : let a = c.args in first (11 when not (finite a.x) ∷ []) (near a.scale a.x a.key a.window) ≡ gives c.lies.result =
-    let a = c.args in 
-    let p = c.fields_of-fields.result in 
+    let a = c.args in
+    let p = c.fields_of-fields.result in
     let v = value in
-    let l = rw (back (sub_lies c), back (add-lies c), middle, back c.ranges.window) at c.lies.ensures in
+    let l = rw (middle, back c.ranges.window, back (low_fits p.negative in_range), back (high_fits p.negative in_range)) at c.lies.ensures in
     rw (value_finite a.x p.negative (sized p.exponent p.fraction) (2 ^ 1074) v)
     (ap gives (near_value a.scale a.x p.negative (sized p.exponent p.fraction) (2 ^ 1074) a.key a.window (pow_pos 1074) v ∙ sym l)) in
     sym (told ∙ ap gives c.if-lies.true)
 
 pub returns-else-lies : goal.returns-else-lies
 returns-else-lies c = let value : let p = c.fields_of-fields.result in HasValue c.args.x p.negative (sized p.exponent p.fraction) (2 ^ 1074) =
-    let p = c.fields_of-fields in 
+    let p = c.fields_of-fields in
     rw p.ensures.is at (fields_value p.result.negative p.result.exponent p.result.fraction (omega (arith, p.ensures.exponent_lt, c.if-fields-eq2047.false))) in
     let in_range : Ranged c.args.key c.args.window =
     ranged c.args.key c.args.window c.requires.fact_3 in
     let middle : to_z w64 (of_z w64 c.turn-middle.result) ≡ turned c.fields_of-fields.result.negative c.args.key =
     rw (c.turn-middle.ensures, back c.ranges.key) (back (turned_fits c.fields_of-fields.result.negative in_range)) in
     let told : let a = c.args in first (11 when not (finite a.x) ∷ []) (near a.scale a.x a.key a.window) ≡ gives c.lies.result =
-    let a = c.args in 
-    let p = c.fields_of-fields.result in 
+    let a = c.args in
+    let p = c.fields_of-fields.result in
     let v = value in
-    let l = rw (back (sub_lies c), back (add-lies c), middle, back c.ranges.window) at c.lies.ensures in
+    let l = rw (middle, back c.ranges.window, back (low_fits p.negative in_range), back (high_fits p.negative in_range)) at c.lies.ensures in
     rw (value_finite a.x p.negative (sized p.exponent p.fraction) (2 ^ 1074) v)
     (ap gives (near_value a.scale a.x p.negative (sized p.exponent p.fraction) (2 ^ 1074) a.key a.window (pow_pos 1074) v ∙ sym l)) in
     sym (told ∙ ap gives c.if-lies.false)

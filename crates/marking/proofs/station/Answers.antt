@@ -33,7 +33,11 @@ figures-requires c = let given_numbers : gives c.in-Are.n ≡ numbers_told c.arg
     let small : Small c.in-Are.n.mk c.in-Are.n.specific c.in-Are.n.mass =
     numbers_small c.args.charge c.args.t.0 c.args.sheet.now given_numbers in
     let m = small in
-    rw (back (fits _ m.mk_small), back (fits _ m.specific_small), back (fits _ m.mass_small)) (omega arith, (omega arith, omega arith))
+    record {
+      fact_1 = rw (back (fits _ m.mk_small)) (omega arith);
+      fact_2 = rw (back (fits _ m.specific_small)) (omega arith);
+      fact_3 = rw (back (fits _ m.mass_small)) (omega arith);
+    }
 
 pub returns-in-Refused : goal.returns-in-Refused
 returns-in-Refused c = sym

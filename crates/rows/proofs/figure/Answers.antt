@@ -1,6 +1,6 @@
 -- `figure`: the row of a kelvin stands 200 places before it in the column, inside the rows (`column_in`).
 use mathlib.Core.Path.{◌∙◌}
-use Rattle.rows.specs.TableLaws.{column_in}
+use Rattle.rows.proofs.TableLaws.{column_in}
 use Rattle.rows.proofs.figure.Goals as goal
 
 pub returns : goal.returns

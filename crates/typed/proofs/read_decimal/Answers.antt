@@ -3,7 +3,6 @@ use Rattle.typed.proofs.Parts.{small}
 use Rattle.typed.specs.Typed.{Small, finish_of, part_of, decimal_of}
 use Rattle.typed.proofs.Parts.{first_long, tail_is}
 use Rattle.text.specs.Wholes.{minus_first}
-use Prim.Native.Nat.{◌-◌}
 use mathlib.Core.Bool.{true, false}
 use mathlib.Core.Path.{◌≡◌, sym, ◌∙◌, ap, subst}
 use Rattle.typed.proofs.read_decimal.Goals as goal

@@ -5,7 +5,6 @@ use Rattle.text.specs.Fold.{run}
 use Rattle.text.specs.FoldLaws.{run_more}
 use lib.Seq.{take_all}
 use lib.ListN.{get_or}
-use Prim.Native.Nat.{◌-◌}
 use mathlib.Core.Path.{refl, sym, ◌∙◌, ap}
 use native.Mathlib.Omega.{arith}
 use Rattle.typed.proofs.read_hex.Goals as goal
@@ -15,10 +14,10 @@ loop-i-init c = (omega arith, refl)
 
 pub loop-i-preserved : goal.loop-i-preserved
 loop-i-preserved c = (
-      omega arith,
-      (c.step_hex-s.ensures ∙ ap (λ x. step_hex x (get_or c.args.text.now c.loop-i.i 0)) c.loop-i.invariant.1)
-          ∙ sym (run_more step_hex (Value 0) c.args.text.now c.loop-i.i (omega arith)),
-    )
+  omega arith,
+  (c.step_hex-s.ensures ∙ ap (λ x. step_hex x (get_or c.args.text.now c.loop-i.i 0)) c.loop-i.invariant.1)
+      ∙ sym (run_more step_hex (Value 0) c.args.text.now c.loop-i.i (omega arith)),
+)
 
 pub returns : goal.returns
 unfolding hex_of

@@ -2,7 +2,6 @@
 use Rattle.typed.proofs.Parts.{long_pattern}
 use Rattle.typed.specs.Typed.{is_pattern, number_of, pattern_of, hex_of}
 use Rattle.typed.proofs.Parts.{tail_is}
-use Prim.Native.Nat.{◌-◌}
 use mathlib.Core.Bool.{true, false}
 use mathlib.Core.Path.{◌≡◌, sym, ◌∙◌, ap}
 use Rattle.typed.proofs.read_number.Goals as goal

@@ -6,9 +6,9 @@ use Rattle.wording.proofs.put_looks.Goals as goal
 
 pub put_first-requires : goal.put_first-requires
 put_first-requires c = (
-      omega (arith, c.count_looks-n.ensures, used_most c.args.looks.now),
-      omega (arith, c.put_number-next.ensures.put.next_is, c.put_number-next.ensures.put.same_length),
-    )
+  omega (arith, c.count_looks-n.ensures, used_most c.args.looks.now),
+  omega (arith, c.put_number-next.ensures.put.next_is, c.put_number-next.ensures.put.same_length),
+)
 
 pub returns : goal.returns
 returns c = puts_wider (omega (arith, used_most c.args.looks.now))

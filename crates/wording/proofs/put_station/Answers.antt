@@ -8,11 +8,11 @@ use borrow.Author.Rules.{rules}
 use Rattle.wording.proofs.put_station.Goals as goal
 
 pub returns-in-Are : goal.returns-in-Are
-returns-in-Are c = let n = c.answer-1.given in 
-    let f0 : SFits w64 n.0.0.mk = search rules in
-    let f1 : SFits w64 n.0.0.specific = search rules in
-    let f2 : SFits w64 n.0.0.mass = search rules in
-    rw n.1
+returns-in-Are c = let n = c.in-Are.n in
+    let f0 : SFits w64 n.mk = search rules in
+    let f1 : SFits w64 n.specific = search rules in
+    let f2 : SFits w64 n.mass = search rules in
+    rw c.in-Are.is
     (puts_wider (omega arith)
     (rw (back f0, back f1, back f2)
     at (puts_then

@@ -1,7 +1,6 @@
 -- `add_fuel`: carbon, then hydrogen, each by `add_atoms`: one that is too many is refusal 4, else the gas with both, the air as it was.
-use mathlib.Core.List.{[]}
 use borrow.Author.Rules.{rules}
-use mathlib.Core.List.{◌∷◌}
+use mathlib.Core.List.{[], ◌∷◌}
 use mathlib.Core.Path.{◌≡◌, refl, sym, ap, ◌∙◌}
 use Prim.Native.Nat.{ℕ, ◌+◌}
 use lib.IntN.{ℤ}
@@ -26,7 +25,8 @@ returns-in_default c = let carbon_told : paper_atoms c.add_atoms.result ≡ firs
     rw (wrong_carbon c.args.gas c.args.fuel c.requires h) refl
 
 pub returns-in_default-add_atoms : goal.returns-in_default-add_atoms
-returns-in_default-add_atoms c = let hydrogen_told : paper_atoms c.add_atoms-2.result ≡ first (4 when wrong_count c.args.gas.hydrogen c.args.fuel.hydrogen ∷ []) (c.args.gas.hydrogen + up c.args.fuel.hydrogen) =
+returns-in_default-add_atoms c =
+    let hydrogen_told : paper_atoms c.add_atoms-2.result ≡ first (4 when wrong_count c.args.gas.hydrogen c.args.fuel.hydrogen ∷ []) (c.args.gas.hydrogen + up c.args.fuel.hydrogen) =
     let f : SFits w64 c.args.fuel.hydrogen = search rules in
     told c.args.gas.hydrogen f c.add_atoms-2.ensures in
     let h = line_held 4 _ (c.args.gas.hydrogen + up c.args.fuel.hydrogen) (sym (ap paper_atoms c.in_default-add_atoms.is) ∙ hydrogen_told) in

@@ -21,7 +21,7 @@ pub lean-requires : goal.lean-requires
 lean-requires c = rw c.gas_of-gas.ensures (limits_of document01 _ (sym c.beyond.ensures ∙ c.if-beyond.false))
 
 pub returns-then-not-lean : goal.returns-then-not-lean
-returns-then-not-lean c = rw (sym c.beyond.ensures ∙ c.if-beyond.false, leaned c.lean.ensures c.gas_of-gas.ensures c.if-not-lean.true) refl
+returns-then-not-lean c = rw (sym c.beyond.ensures ∙ c.if-beyond.false, leaned c.lean.ensures c.gas_of-gas.ensures (ap not c.if-not-lean.true)) refl
 
 pub returns : goal.returns
-returns c = rw (sym c.beyond.ensures ∙ c.if-beyond.false, leaned c.lean.ensures c.gas_of-gas.ensures c.if-not-lean.false) (ap gives c.gas_of-gas.ensures)
+returns c = rw (sym c.beyond.ensures ∙ c.if-beyond.false, leaned c.lean.ensures c.gas_of-gas.ensures (ap not c.if-not-lean.false)) (ap gives c.gas_of-gas.ensures)

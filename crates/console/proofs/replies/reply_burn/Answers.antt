@@ -21,4 +21,4 @@ pub returns : goal.returns
 returns c = rw
     (← exactly (λ (l : List ℤ). burnt_text (burn_told document01 (charge_in l))) misfit_text (fields_from c.args.line.now c.args.from) (replicate charge_numbers (pos 0))
     c.read_exactly.new.list charge_numbers refl c.read_exactly.ensures.value c.if-not-read_exactly.false refl c.read_exactly.ensures.stored)
-    (rw (c.burn.ensures, c.charge_in.ensures) c c.put_burnt.ensures)
+    (rw (c.burn.ensures, c.charge_in.ensures) at c.put_burnt.ensures)

@@ -21,13 +21,12 @@ returns-then-n-lt-START_NUMBERS c = rw
     c.put_misfit.ensures
 
 pub slice_bounds-show-end : goal.slice_bounds-show-end
-slice_bounds-show-end c = omega (arith, c.list-2-1.ensures, held_most c.list-1.result held_numbers)
+slice_bounds-show-end c = omega (arith, c.held_of-n.ensures, held_most c.read_numbers.result held_numbers)
 
 pub returns : goal.returns
-returns c = let f3 : SFits w64 (get_or c.list-1.new.1.1.0 3 (pos 0)) = search rules in
-    let at_start = c. in 
+returns c = let f3 : SFits w64 (get_or c.read_numbers.new.list 3 (pos 0)) = search rules in
     rw
-    (walk_kept at_start.args.verdict at_start.args.sheet.now (fields_from at_start.args.line.now at_start.args.from)
-    (replicate held_numbers (pos 0)) c.list-1.new.1.1.0 refl c.list-1.result c.list-2-1.result
-    c.list-1.ensures.0 c.list-1.ensures.1 c.list-2-1.ensures c.held_of-n.false)
-    at (rw (c.list-3-1.ensures, back f3) at c.show-shown.ensures.puts)
+    (walk_kept c.args.verdict c.args.sheet.now (fields_from c.args.line.now c.args.from)
+    (replicate held_numbers (pos 0)) c.read_numbers.new.list refl c.read_numbers.result c.held_of-n.result
+    c.read_numbers.ensures.value c.read_numbers.ensures.stored c.held_of-n.ensures c.if-n-lt-START_NUMBERS.false)
+    at (rw (c.charge_in-start.ensures, back f3) at c.show-shown.ensures.puts)

@@ -9,13 +9,13 @@ put_walk-end-requires c = holds (walk_told c.args.verdict c.args.sheet.now c.arg
     c.walk_held-answer.ensures (search rules) (search rules) (search rules) (search rules)
 
 pub returns : goal.returns
-returns c =  record {
-      puts = rw
-          (walk_shown_lem
-          (walk_told c.args.verdict c.args.sheet.now c.args.charge c.args.t.0 c.args.steps.now)
-          c.walk_held-answer.ensures
-          (walk_searched c.args.verdict c.args.sheet.now c.args.charge c.args.t.0 c.args.steps.now)
-          c.args.layout)
-          at c.put_walk-end.ensures;
-      answer_value = c.walk_held-answer.ensures.answer;
-    }
+returns c = record {
+  puts = rw
+      (walk_shown_lem
+      (walk_told c.args.verdict c.args.sheet.now c.args.charge c.args.t.0 c.args.steps.now)
+      c.walk_held-answer.ensures
+      (walk_searched c.args.verdict c.args.sheet.now c.args.charge c.args.t.0 c.args.steps.now)
+      c.args.layout)
+      at c.put_walk-end.ensures;
+  answer_value = c.walk_held-answer.ensures.answer;
+}

@@ -10,7 +10,7 @@ pub walk_judged-requires : goal.walk_judged-requires
 walk_judged-requires c = (judged_good c.args.sheet.now (subst (λ (v : SheetAnswer). Judged v c.args.sheet.now) c.in-Good.is c.requires.0), c.requires.1)
 
 pub returns-in-Good : goal.returns-in-Good
-returns-in-Good c = let e = c.in-Good.is in 
+returns-in-Good c = let e = c.in-Good.is in
     let ok = judged_good c.args.sheet.now (subst (λ (v : SheetAnswer). Judged v c.args.sheet.now) e c.requires.0) in
     rw e (rw (c.requires.2, c.requires.3, c.requires.4, walks_accepted c.args.charge c.args.t.0 c.args.steps.now ok) at c.walk_judged.ensures)
 

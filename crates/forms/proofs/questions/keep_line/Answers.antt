@@ -20,8 +20,8 @@ pub loop-i-init : goal.loop-i-init
 loop-i-init c = (omega arith, refl, ap (λ (n : ℕ). sets c.args.numbers.now n c.args.line.now) (sym (add-zero (step_numbers * c.args.k))))
 
 pub loop-i-preserved : goal.loop-i-preserved
-loop-i-preserved c = let i = c.loop-i.i in 
-    let line = c.args.line.now in 
+loop-i-preserved c = let i = c.loop-i.i in
+    let line = c.args.line.now in
     let h : i < length line = omega (arith, c.requires) in
     let f : SFits w64 (get_or line i (pos 0)) = search rules in
     let e : c.keep.new.list ≡ set c.loop-i.numbers (step_numbers * c.args.k + i) (get_or line i (pos 0)) = rw (back f) at c.keep.ensures in (

@@ -19,6 +19,6 @@ returns c = let f : SFits w64 (get_or c.args.numbers.now charge_numbers (pos 0))
     let e : step_numbers * c.kept-end.result - step_numbers ≡ step_numbers * min c.args.lines kept_lines - step_numbers =
     omega (arith, c.kept-end.ensures.1) in
     let p = rw (c.charge_in-start.ensures, back f, e) at c.print_judged.ensures in record {
-      stands = puts_whole c.requires.3 p.0;
-      answer_value = p.1;
+      stands = puts_whole c.requires.3 p.puts;
+      answer_value = p.answer_value;
     }

@@ -12,12 +12,12 @@ use Rattle.forms.proofs.questions.take_next.Goals as goal
 
 pub returns-then-holds_return : goal.returns-then-holds_return
 returns-then-holds_return c = let h : holds_return c.args.line.now ≡ true = sym c.holds_return.ensures ∙ c.if-holds_return.true in record {
-      value = rw (h, c.one_more.ensures) refl;
-      numbers_after = rw h refl;
-    }
+  value = rw (h, c.one_more.ensures) refl;
+  numbers_after = rw h refl;
+}
 
 pub returns-then-read_exactly : goal.returns-then-read_exactly
-returns-then-read_exactly c = let line = c.args.line.now in 
+returns-then-read_exactly c = let line = c.args.line.now in
     let h : holds_return line ≡ false = sym c.holds_return.ensures ∙ c.if-holds_return.false in
     let w = whole_line line in
     let t : is_count step_numbers (count_all 0 (fields_from line 0)) ≡ true = sym c.read_exactly.ensures.value ∙ c.if-read_exactly.true in
@@ -28,7 +28,7 @@ returns-then-read_exactly c = let line = c.args.line.now in
     }
 
 pub returns-else-read_exactly : goal.returns-else-read_exactly
-returns-else-read_exactly c = let line = c.args.line.now in 
+returns-else-read_exactly c = let line = c.args.line.now in
     let h : holds_return line ≡ false = sym c.holds_return.ensures ∙ c.if-holds_return.false in
     let u : is_line (fields_of line) ≡ false = rw (whole_line line) at (sym c.read_exactly.ensures.value ∙ c.if-read_exactly.false) in record {
       value = rw (h, u, c.one_more-else-read_exactly.ensures) refl;

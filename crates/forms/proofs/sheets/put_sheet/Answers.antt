@@ -15,7 +15,7 @@ text_length-bytes-requires c = let good : Accepted c.args.sheet.now =
 pub write_text-requires : goal.write_text-requires
 write_text-requires c = let good : Accepted c.args.sheet.now =
     judged_good c.args.sheet.now (rw c.in-Good.is at c.requires.0) in
-    let sheet = c.args.sheet.now in 
+    let sheet = c.args.sheet.now in
     (good.long, c.text_length-bytes.ensures, omega (arith, c.text_length-bytes.ensures, text_most sheet (accepted_numbers good)))
 
 pub returns-in-Good : goal.returns-in-Good

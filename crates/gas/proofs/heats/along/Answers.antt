@@ -1,6 +1,6 @@
 -- `along`: the heat does not fall to the next kelvin, and a thousandth of the rise, f times, added to it still fits (proofs/Lines.antt).
 use borrow.Author.Rules.{rules}
-use mathlib.Core.Path.{◌≡◌, sym, ◌∙◌}
+use mathlib.Core.Path.{◌≡◌, sym}
 use Prim.Native.Nat.{◌/◌}
 use native.Mathlib.Omega.{arith}
 use mir.Val.{SFits}
@@ -54,4 +54,4 @@ returns c = let here_fits : SFits w64 c.args.here.0 =
     search rules in
     let slope : c.gap.result / 1000 ≡ c.requires.0.slope =
     slope_is c.requires.0 (rw (back here_fits, back next_fits) at c.gap.ensures) in
-    back (add-t8 c) ∙ rw (back here_fits, back part_fits, c.of_u64.ensures, slope) (sym (along_is c.requires.0 c.args.f))
+    rw (back here_fits, back part_fits, c.of_u64.ensures, slope, back (along_fits c.requires.0 c.requires.1 here_fits next_fits)) (sym (along_is c.requires.0 c.args.f))

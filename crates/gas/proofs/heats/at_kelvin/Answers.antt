@@ -3,7 +3,7 @@ use mathlib.Core.Path.{◌≡◌, sym, ap, ◌∙◌}
 use mathlib.Core.List.{List}
 use Prim.Native.Nat.{ℕ}
 use native.Mathlib.Omega.{arith}
-use Rattle.rows.specs.TableLaws.{h_most}
+use Rattle.rows.proofs.TableLaws.{h_most}
 use Rattle.rows.specs.Table.{column, air_h}
 use Rattle.rows.specs.Rows.{rows_h}
 use Rattle.sheet.specs.SheetLaws.{accepted_limit}
@@ -17,14 +17,14 @@ air_figure k e h = h ∙ ap (λ (l : List ℕ). column l k) e
 
 pub sum-requires : goal.sum-requires
 sum-requires c = let n = accepted_limit c.requires.0.accepted c.args.kelvin c.requires.1 c.requires.2 in (
-      c.requires.0.sized,
-      record {
-        air_most = omega (arith, air_figure c.args.kelvin c.requires.0.column_is c.figure.ensures.0, h_most c.args.kelvin);
-        oxygen_most = omega (arith, c.o2_at.ensures.0, n.o2_most);
-        dioxide_most = omega (arith, c.co2_at.ensures.0, n.co2_most);
-        water_most = omega (arith, c.h2o_at.ensures.0, n.h2o_most);
-      },
-    )
+  c.requires.0.sized,
+  record {
+    air_most = omega (arith, air_figure c.args.kelvin c.requires.0.column_is c.figure.ensures.0, h_most c.args.kelvin);
+    oxygen_most = omega (arith, c.o2_at.ensures.0, n.o2_most);
+    dioxide_most = omega (arith, c.co2_at.ensures.0, n.co2_most);
+    water_most = omega (arith, c.h2o_at.ensures.0, n.h2o_most);
+  },
+)
 
 pub returns : goal.returns
 returns c = c.sum.ensures

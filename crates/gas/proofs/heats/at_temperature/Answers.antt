@@ -57,7 +57,7 @@ returns c = let t_fits : SFits w64 c.args.t.0 =
     tested_nat coldest hottest t_fits (sym c.requires.1) refl c.to_u64-mk.ensures in
     let not_last : c.to_u64-mk.result < hottest =
     lt_of_le-ne mk.most c.if-mk-eq-LAST_MK.false in
-    let n = c.to_u64-mk.result in 
+    let n = c.to_u64-mk.result in
     let m = mk in
     c.along.ensures
     ∙ rw (c.at_kelvin-2.ensures, c.at_kelvin-3.ensures)

@@ -1,12 +1,25 @@
 -- `sum`: what the masses add and what the used oxygen takes away both fit (`added_most`, `taken_most`), and their difference is the heat (`sum_diff`).
 use borrow.Author.Rules.{rules}
-use mathlib.Core.Path.{◌∙◌}
+use Prim.Native.Nat.{ℕ}
 use native.Mathlib.Omega.{arith}
+use lib.IntN.{pos, ◌*ℤ◌}
 use mir.Val.{SFits}
 use mir.Syntax.{w64}
 use Rattle.signed.specs.Zed.{back, fits_from}
 use Rattle.gas.specs.HeatLaws.{sum_diff, added_most, taken_most, taken_is, sum_parts}
+use Rattle.gas.specs.Heat.{heat_sum}
+use Rattle.gas.specs.inner.Sizes.{Sized, PerPound}
+use Rattle.burning.specs.declared.Masses.{Masses}
 use Rattle.gas.proofs.heats.sum.Goals as goal
+
+module _ {m : Masses} {a o c h : ℕ} (z : Sized m) (p : PerPound a o c h) where
+  -- what the used oxygen takes away
+  taken_fits : SFits w64 (m.used *ℤ pos o)
+  taken_fits = fits_from w64 (taken_is z p) (omega (arith, taken_most z p)) (omega arith)
+
+  -- the heat
+  sum_fits : SFits w64 (heat_sum m a o c h)
+  sum_fits = fits_from w64 (sum_parts z p) (omega (arith, added_most z p)) (omega (arith, taken_most z p))
 
 pub overflow_mul-plus : goal.overflow_mul-plus
 overflow_mul-plus c = omega (arith, added_most c.requires.0 c.requires.1)
@@ -31,8 +44,7 @@ overflow_mul-result c = let used_fits : SFits w64 c.args.gas.used =
     search rules in
     let o2_fits : SFits w64 c.of_u64-2.result =
     search rules in
-    rw (back used_fits, back o2_fits, c.of_u64-2.ensures)
-    (fits_from w64 (taken_is c.requires.0 c.requires.1) (omega (arith, taken_most c.requires.0 c.requires.1)) (omega arith))
+    rw (back used_fits, back o2_fits, c.of_u64-2.ensures) (taken_fits c.requires.0 c.requires.1)
 
 pub overflow_sub-result : goal.overflow_sub-result
 overflow_sub-result c = let used_fits : SFits w64 c.args.gas.used =
@@ -42,15 +54,14 @@ overflow_sub-result c = let used_fits : SFits w64 c.args.gas.used =
     let plus_fits : SFits w64 c.of_u64.result =
     search rules in
     rw (
-      back (mul-t13 c),
       back used_fits,
       back o2_fits,
       back plus_fits,
       c.of_u64-2.ensures,
       c.of_u64.ensures,
+      back (taken_fits c.requires.0 c.requires.1),
       sum_diff c.args.gas c.args.air c.args.o2 c.args.co2 c.args.h2o,
-    )
-    (fits_from w64 (sum_parts c.requires.0 c.requires.1) (omega (arith, added_most c.requires.0 c.requires.1)) (omega (arith, taken_most c.requires.0 c.requires.1)))
+    ) (sum_fits c.requires.0 c.requires.1)
 
 pub returns : goal.returns
 returns c = let used_fits : SFits w64 c.args.gas.used =
@@ -59,5 +70,12 @@ returns c = let used_fits : SFits w64 c.args.gas.used =
     search rules in
     let plus_fits : SFits w64 c.of_u64.result =
     search rules in
-    back (sub-t14 c) ∙ rw (back (mul-t13 c), back used_fits, back o2_fits, back plus_fits, c.of_u64-2.ensures, c.of_u64.ensures)
-    (sum_diff c.args.gas c.args.air c.args.o2 c.args.co2 c.args.h2o)
+    rw (
+      back used_fits,
+      back o2_fits,
+      back plus_fits,
+      c.of_u64-2.ensures,
+      c.of_u64.ensures,
+      back (taken_fits c.requires.0 c.requires.1),
+      sum_diff c.args.gas c.args.air c.args.o2 c.args.co2 c.args.h2o,
+    ) (back (sum_fits c.requires.0 c.requires.1))

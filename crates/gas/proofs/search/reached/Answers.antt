@@ -23,17 +23,18 @@ returns-then-last-target c = let last_fits : SFits w64 c.args.last.0 =
     search rules in
     let target_fits : SFits w64 c.args.target.0 =
     search rules in
-    let last_is : c.args.target.0 ≡ heat_of c.args.gas c.args.t5.now hottest =
+    let last_is : c.args.target.0 ≡ heat_of c.args.gas c.args.sheet.now hottest =
     omega (zed, le_read last_fits target_fits c.if-last-target.true, c.requires.ready.2, c.requires.coldest_bound.1) in
     at_last c.requires.ready.0 c.args.target.0 _ _ last_is c.lay.ensures
 
 pub halve-row-requires : goal.halve-row-requires
 halve-row-requires c = let used_fits : SFits w64 c.args.gas.used =
     search rules in
-    rw (back used_fits) (
-  (omega arith, omega arith, omega arith, c.requires.ready.0),
-  (refl, record { room = omega (arith, at_most_eleven (heat_fits c.args.gas c.args.t5.now c.args.target.0)) }),
-)
+    rw (back used_fits)
+    record {
+      first_kelvin_le_lo = (omega arith, omega arith, omega arith, c.requires.ready.0);
+      looks_len = (refl, record { room = omega (arith, at_most_eleven (heat_fits c.args.gas c.args.sheet.now c.args.target.0)) });
+    }
 
 pub lay-requires-2 : goal.lay-requires-2
 lay-requires-2 c = (ap length c.halve-row.ensures.list_is ∙ simp length-sets, search rules)
@@ -43,11 +44,11 @@ at_kelvin-here-requires c = let last_fits : SFits w64 c.args.last.0 =
     search rules in
     let target_fits : SFits w64 c.args.target.0 =
     search rules in
-    let below_last : c.args.target.0 <ℤ heat_of c.args.gas c.args.t5.now hottest =
+    let below_last : c.args.target.0 <ℤ heat_of c.args.gas c.args.sheet.now hottest =
     omega (zed, le_read last_fits target_fits c.if-last-target.false, c.requires.ready.2) in
     let used_fits : SFits w64 c.args.gas.used =
     search rules in
-    let kept : c.halve-row.result ≡ (halving (heat_fits c.args.gas c.args.t5.now c.args.target.0) first_kelvin last_kelvin).row =
+    let kept : c.halve-row.result ≡ (halving (heat_fits c.args.gas c.args.sheet.now c.args.target.0) first_kelvin last_kelvin).row =
     (rw (back used_fits) at c.halve-row.ensures).row_is in
     let least : first_kelvin ≤ c.halve-row.result =
     row_least c.requires.ready.0 c.args.target.0 c.requires.coldest_bound.0 below_last kept in
@@ -60,11 +61,11 @@ overflow_add-row c = let last_fits : SFits w64 c.args.last.0 =
     search rules in
     let target_fits : SFits w64 c.args.target.0 =
     search rules in
-    let below_last : c.args.target.0 <ℤ heat_of c.args.gas c.args.t5.now hottest =
+    let below_last : c.args.target.0 <ℤ heat_of c.args.gas c.args.sheet.now hottest =
     omega (zed, le_read last_fits target_fits c.if-last-target.false, c.requires.ready.2) in
     let used_fits : SFits w64 c.args.gas.used =
     search rules in
-    let kept : c.halve-row.result ≡ (halving (heat_fits c.args.gas c.args.t5.now c.args.target.0) first_kelvin last_kelvin).row =
+    let kept : c.halve-row.result ≡ (halving (heat_fits c.args.gas c.args.sheet.now c.args.target.0) first_kelvin last_kelvin).row =
     (rw (back used_fits) at c.halve-row.ensures).row_is in
     let most : c.halve-row.result < last_kelvin =
     row_most c.requires.ready.0 c.args.target.0 c.requires.coldest_bound.0 below_last kept in
@@ -75,11 +76,11 @@ at_kelvin-requires c = let last_fits : SFits w64 c.args.last.0 =
     search rules in
     let target_fits : SFits w64 c.args.target.0 =
     search rules in
-    let below_last : c.args.target.0 <ℤ heat_of c.args.gas c.args.t5.now hottest =
+    let below_last : c.args.target.0 <ℤ heat_of c.args.gas c.args.sheet.now hottest =
     omega (zed, le_read last_fits target_fits c.if-last-target.false, c.requires.ready.2) in
     let used_fits : SFits w64 c.args.gas.used =
     search rules in
-    let kept : c.halve-row.result ≡ (halving (heat_fits c.args.gas c.args.t5.now c.args.target.0) first_kelvin last_kelvin).row =
+    let kept : c.halve-row.result ≡ (halving (heat_fits c.args.gas c.args.sheet.now c.args.target.0) first_kelvin last_kelvin).row =
     (rw (back used_fits) at c.halve-row.ensures).row_is in
     let least : first_kelvin ≤ c.halve-row.result =
     row_least c.requires.ready.0 c.args.target.0 c.requires.coldest_bound.0 below_last kept in
@@ -92,11 +93,11 @@ divide-requires c = let last_fits : SFits w64 c.args.last.0 =
     search rules in
     let target_fits : SFits w64 c.args.target.0 =
     search rules in
-    let below_last : c.args.target.0 <ℤ heat_of c.args.gas c.args.t5.now hottest =
+    let below_last : c.args.target.0 <ℤ heat_of c.args.gas c.args.sheet.now hottest =
     omega (zed, le_read last_fits target_fits c.if-last-target.false, c.requires.ready.2) in
     let used_fits : SFits w64 c.args.gas.used =
     search rules in
-    let kept : c.halve-row.result ≡ (halving (heat_fits c.args.gas c.args.t5.now c.args.target.0) first_kelvin last_kelvin).row =
+    let kept : c.halve-row.result ≡ (halving (heat_fits c.args.gas c.args.sheet.now c.args.target.0) first_kelvin last_kelvin).row =
     (rw (back used_fits) at c.halve-row.ensures).row_is in
     holds_target c.requires.ready.0 c.args.target.0 c.requires.coldest_bound.0 below_last kept c.at_kelvin-here.ensures c.at_kelvin.ensures
 
@@ -107,9 +108,9 @@ returns c = let used_fits : SFits w64 c.args.gas.used =
     search rules in
     let target_fits : SFits w64 c.args.target.0 =
     search rules in
-    let below_last : c.args.target.0 <ℤ heat_of c.args.gas c.args.t5.now hottest =
+    let below_last : c.args.target.0 <ℤ heat_of c.args.gas c.args.sheet.now hottest =
     omega (zed, le_read last_fits target_fits c.if-last-target.false, c.requires.ready.2) in
-    let kept : c.halve-row.result ≡ (halving (heat_fits c.args.gas c.args.t5.now c.args.target.0) first_kelvin last_kelvin).row =
+    let kept : c.halve-row.result ≡ (halving (heat_fits c.args.gas c.args.sheet.now c.args.target.0) first_kelvin last_kelvin).row =
     (rw (back used_fits) at c.halve-row.ensures).row_is in
     let h = rw (back used_fits) at c.halve-row.ensures in
     rw c.divide.ensures

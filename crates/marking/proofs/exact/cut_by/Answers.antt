@@ -57,7 +57,7 @@ overflow_add-result-4 c = let above : c.args.scale * (c.args.digits / 4096) ≤ 
 pub returns : goal.returns
 returns c = let unit : 1 * 2 ^ (c.args.k - 12) % 2 ^ 64 ≡ 2 ^ (c.args.k - 12) =
     shl_exact 1 (c.args.k - 12) 64 (lit< tt) (omega arith) ∙ one-mul (2 ^ (c.args.k - 12)) in
-    let a = c.args in 
+    let a = c.args in
     let j = a.k - 12 in
     rw (and_mask a.digits 12, unit) record {
       floor = floor_is a.scale a.digits 12 j a.k (omega arith);

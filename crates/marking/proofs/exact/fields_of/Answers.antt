@@ -6,4 +6,4 @@ use Rattle.marking.proofs.exact.fields_of.Goals as goal
 
 -- what owning an `f64` tells: the format holds it
 pub returns : goal.returns
-returns c = fields_are c.args.x (subst T (sym c..0.1) tt)
+returns c = fields_are c.args.x (subst T (sym c.well_formed.0.1) tt)

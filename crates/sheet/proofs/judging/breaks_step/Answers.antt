@@ -4,7 +4,7 @@ use Prim.Native.Nat.{suc, ◌+◌}
 use native.Mathlib.Numerals.{add-one}
 use native.Mathlib.Omega.{arith}
 use Rattle.rows.specs.Table.{air_h}
-use Rattle.rows.specs.TableLaws.{h_grows}
+use Rattle.rows.proofs.TableLaws.{h_grows}
 use Rattle.sheet.proofs.StepRule.{o2_falls, co2_falls, h2o_falls, rise_decides, air_figure}
 use Rattle.sheet.proofs.judging.breaks_step.Goals as goal
 

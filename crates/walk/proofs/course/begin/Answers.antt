@@ -9,6 +9,6 @@ heat_at-requires-2 c = (c.requires.0, c.requires.1, c.requires.2, refl)
 
 pub returns : goal.returns
 returns c = record {
-      state_is = refl;
-      stands = record { burns = c.requires.0; covered = c.requires.3; heat_is = c.heat_at.ensures; fifteen_is = c.heat_at-2.ensures };
-    }
+  state_is = refl;
+  stands = record { burns = c.requires.0; covered = c.requires.3; heat_is = c.heat_at.ensures; fifteen_is = c.heat_at-2.ensures };
+}

@@ -15,23 +15,23 @@ pub step_at-requires : goal.step_at-requires
 step_at-requires c = (omega arith, omega arith)
 
 pub step-requires : goal.step-requires
-step-requires c = let b = c.loop-i in 
+step-requires c = let b = c.loop-i in
     (b.invariant.stands, c.requires.stands.1, c.requires.stands.2, lent_room (look_places * b.i) look_places b.looks (omega arith))
 
 pub tell_stopped-requires : goal.tell_stopped-requires
-tell_stopped-requires c = let b = c.loop-i in 
+tell_stopped-requires c = let b = c.loop-i in
     (omega arith, b.invariant.stands.burns.limits, b.invariant.stands.covered)
 
 pub shape_of-looks-in-Refused : goal.shape_of-looks-in-Refused
-shape_of-looks-in-Refused c = let b = c.loop-i in 
-    let s = c.step in 
-    length_back (look_places * b.i) b.looks s.new.1.1.0 (omega arith) s.auto.1.1.0 ∙ b.invariant.same_l
+shape_of-looks-in-Refused c = let b = c.loop-i in
+    let s = c.step in
+    length_back (look_places * b.i) b.looks s.new.looks (omega arith) s.auto.looks ∙ b.invariant.same_l
 
 pub returns-in-Refused : goal.returns-in-Refused
-returns-in-Refused c = let b = c.loop-i in 
-    let s = c.step in 
+returns-in-Refused c = let b = c.loop-i in
+    let s = c.step in
     halted _ _ _ _ _ _ _ _ _ b.looks _ _ b.invariant (search rules) _ c.step_at.ensures
-    s.result s.new.1.1.0 _ _ c.in-Refused.is c.tell_stopped.ensures s.ensures
+    s.result s.new.looks _ _ c.in-Refused.is c.tell_stopped.ensures s.ensures
 
 pub offset_bounds-temperatures-i : goal.offset_bounds-temperatures-i
 offset_bounds-temperatures-i c = omega (arith, c.loop-i-test, c.requires.n_le_most_steps.0)
@@ -49,10 +49,10 @@ pub overflow_add-i : goal.overflow_add-i
 overflow_add-i c = omega (arith, c.loop-i-test, c.requires.n_le_most_steps.0)
 
 pub loop-i-preserved : goal.loop-i-preserved
-loop-i-preserved c = let b = c.loop-i in 
-    let s = c.step in 
+loop-i-preserved c = let b = c.loop-i in
+    let s = c.step in
     turned _ _ _ _ _ _ _ _ _ b.looks _ _ b.invariant (search rules) _
-    c.step_at.ensures s.result s.new.1.1.0 _ _ _ _
+    c.step_at.ensures s.result s.new.looks _ _ _ _
     c.in-Done.is (search rules) (search rules) s.ensures
 
 pub tell_done-requires : goal.tell_done-requires

@@ -12,7 +12,7 @@ use lib.Seq.{get_or-drop}
 use Rattle.walk.proofs.course.step_at.Goals as goal
 
 pub returns : goal.returns
-returns c = let l = c.args.steps.now in 
+returns c = let l = c.args.steps.now in
     let at = step_numbers * c.args.i in
     let f : SFits w64 (get_or l at (pos 0)) = search rules in
     let g : SFits w64 (get_or l (at + 1) (pos 0)) = search rules in

@@ -1,7 +1,6 @@
 -- `step`: a refusal of the first half, or of the search for the asked heat, or the state that it finds (proofs/Halves.antt): the paper's `judge`.
-use mathlib.Core.List.{[]}
 use borrow.Author.Rules.{rules}
-use mathlib.Core.List.{List}
+use mathlib.Core.List.{List, []}
 use Prim.Native.Nat.{ℕ}
 use Rattle.gas.specs.Answers.{Inverted}
 use Rattle.gas.specs.Heat.{gas_heat}

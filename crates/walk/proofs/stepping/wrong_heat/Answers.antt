@@ -10,11 +10,11 @@ use Rattle.walk.proofs.stepping.wrong_heat.Goals as goal
 pub returns-then-not-inside : goal.returns-then-not-inside
 returns-then-not-inside c = let fit_value : SFits w64 c.args.p.value =
     search rules in
-    rw (ap not (sym (in_plain _ _ fit_value c.inside.ensures)) ∙ c.if-not-inside.true) refl
+    rw (ap not (sym (in_plain _ _ fit_value c.inside.ensures) ∙ c.if-not-inside.true)) refl
 
 pub returns : goal.returns
 returns c = let fit_value : SFits w64 c.args.p.value =
     search rules in
     let fit_heat : SFits w64 c.args.p.heat =
     search rules in
-    rw (ap not (sym (in_plain _ _ fit_value c.inside.ensures)) ∙ c.if-not-inside.false, in_plain _ _ fit_heat c.inside-2.ensures) refl
+    rw (ap not (sym (in_plain _ _ fit_value c.inside.ensures) ∙ c.if-not-inside.false), in_plain _ _ fit_heat c.inside-2.ensures) refl
