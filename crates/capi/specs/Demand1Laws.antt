@@ -86,7 +86,7 @@ pub demand_1_gaskeys_write_sheet : {s before later : List ℕ} {r : WrittenTold}
 demand_1_gaskeys_write_sheet h = rw h.told (flat_demand_1 _ _ refl)
 
 pub demand_1_gaskeys_read_piece : {state : ReadingState} {piece before later : List ℕ} {r : PieceTold} → PieceIs state piece before r later
-    → FlatDemand1 (piece_lines before ((after_piece (reading_in state) piece before).reading)) r.refusal r.row r.placed
+    → FlatDemand1 (piece_lines before (after_piece (reading_in state) piece before).reading) r.refusal r.row r.placed
 demand_1_gaskeys_read_piece h = rw h.told (flat_demand_1 _ _ refl)
 
 pub demand_1_gaskeys_close_reading : (s : SheetReading) (l : List ℕ) (r : PieceTold) → r ≡ closed_told s l → FlatDemand1 (piece_lines l (after_close s)) r.refusal r.row r.placed
