@@ -7,7 +7,6 @@ use lib.ListN.{length}
 use borrow.Author.Tests.{eq-eqb, ne_eqb}
 use Rattle.text.specs.Fold.{run}
 use Rattle.refusal.specs.declared.Refusal.TheVariants.{Plain, At}
-use Rattle.refusal.specs.Refusals.{first}
 use Rattle.sheet_text.specs.Limits.{sheet_numbers}
 use Rattle.sheet.specs.declared.SheetAnswer.TheVariants.{Good, Refused}
 use Rattle.sheet_text.specs.declared.Place.{Place}

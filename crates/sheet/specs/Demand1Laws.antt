@@ -1,4 +1,4 @@
--- Demand 1 for each entry on a sheet, both ways: `demand-1-NAME`, of every answer that meets the promise of NAME. Assumes nothing.
+-- Demand 1 for each entry on a sheet, both ways: `demand_1_NAME`, of every answer that meets the promise of NAME. Assumes nothing.
 use Rattle.std.specs.Prelude.{◌≡◌, List, [], ◌∷◌, ℕ}
 use Rattle.refusal.specs.Refusals.{◌when◌, ◌at_place◌when◌, Demand1}
 use Rattle.refusal.specs.RefusalsLaws.{demand_1}
@@ -25,7 +25,7 @@ pub demand_1_write_sheet : {s before later : List ℕ} {a : WriteAnswer} → She
 demand_1_write_sheet h = demand_1 _ _ h.told
 
 pub demand_1_read_piece : {s : SheetReading} {piece before later : List ℕ} {r : Taken} → PieceRead s piece before r later
-    → Demand1 (piece_lines before ((after_piece s piece before).reading)) (progress ((after_piece s piece before).reading)) (paper_piece r.answer)
+    → Demand1 (piece_lines before (after_piece s piece before).reading) (progress (after_piece s piece before).reading) (paper_piece r.answer)
 demand_1_read_piece h = demand_1 _ _ h.told
 
 pub demand_1_close_reading : {s : SheetReading} {l : List ℕ} {r : Closed} → ReadingClosed s l r → Demand1 (piece_lines l (after_close s)) tt (paper_sheet r.answer)

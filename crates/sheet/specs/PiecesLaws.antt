@@ -1,7 +1,7 @@
 -- A sheet that comes in pieces: whatever the cutting, and whatever lists of a wrong length are lent in between, the close answers as `read_sheet` does on the pieces joined
 -- (`cut_as_you_like`); more is expected exactly while a good sheet can follow; and what is over stays. Assumes nothing.
 use Rattle.std.proofs.Common.{eqb-true, ltb-true, eq-eqb, ne_eqb, sym, ◌∙◌, ap, ap₂, subst, append-nil, append_assoc, arith}
-use Rattle.std.specs.Prelude.{◌≡◌, refl, Bool, true, false, not, cond, List, [], ◌∷◌, ◌++◌, ℕ, ◌≤◌, ltb, eqb, length}
+use Rattle.std.specs.Prelude.{◌≡◌, refl, Bool, true, false, cond, List, [], ◌∷◌, ◌++◌, ℕ, ◌≤◌, ltb, eqb, length}
 use Rattle.rows.specs.Limits.{table_rows}
 use Rattle.text.specs.Fold.{run}
 use Rattle.text.specs.FoldLaws.{run_append}

@@ -103,7 +103,8 @@ cover_more s l j hl hs =
     ∙ (sym (append_snoc (take j s) (get_or s j 0) (drop (suc j) l))
     ∙ ap (λ (x : List ℕ). x ++ drop (suc j) l) (sym (take-suc s j 0 hs))))
 
-cover_three : (s l : List ℕ) (j : ℕ) → suc (suc j) < length l → suc (suc j) < length s → sets (cover s l j) j (get_or s j 0 ∷ get_or s (j + 1) 0 ∷ get_or s (j + 2) 0 ∷ []) ≡ cover s l (suc (suc (suc j)))
+cover_three : (s l : List ℕ) (j : ℕ) → suc (suc j) < length l → suc (suc j) < length s
+    → sets (cover s l j) j (get_or s j 0 ∷ get_or s (j + 1) 0 ∷ get_or s (j + 2) 0 ∷ []) ≡ cover s l (suc (suc (suc j)))
 cover_three s l j hl hs =
     simp (add-one, add-two, cover_more s l j (omega arith) (omega arith), cover_more s l (suc j) (omega arith) (omega arith), cover_more s l (suc (suc j)) hl hs)
 

@@ -1,7 +1,7 @@
 -- `copy`: afterwards the lent list is the numbers.
 use mathlib.Core.Path.{refl, ap, ◌∙◌}
 use mathlib.Core.List.{List}
-use Prim.Native.Nat.{ℕ, ◌-◌}
+use Prim.Native.Nat.{ℕ}
 use native.Mathlib.Omega.{arith}
 use lib.ListN.{set, get_or, length-set}
 use Rattle.sheet.proofs.Copied.{copy_more, copy_whole}

@@ -1,10 +1,7 @@
 -- `first_bad_row`: the first row that is bad, or the number of rows where none is (`first_bad_found`, `no_bad_row_lem`).
 use mathlib.Core.Path.{◌≡◌, sym, ◌∙◌}
-use mathlib.Core.Bool.{false}
-use Prim.Native.Nat.{◌-◌}
 use native.Mathlib.Omega.{arith}
 use borrow.Author.Count.{below_more}
-use Rattle.sheet.specs.Sheet.{bad_row}
 use Rattle.sheet.specs.SheetLaws.{first_bad_found, no_bad_row_lem}
 use Rattle.sheet.proofs.judging.first_bad_row.Goals as goal
 
