@@ -1,6 +1,6 @@
 -- Demand 1 for each call for C and Rust, both ways: `demand_1_NAME`, of every struct that meets the promise of NAME. Assumes nothing.
 use Rattle.std.proofs.Common.{ltb-true, sym, ◌∙◌, true≢false, ⊎_elim, arith}
-use Rattle.std.specs.Prelude.{◌≡◌, refl, true, List, [], ◌∷◌, ◌++◌, ◌⊎◌, ℕ, ◌/◌, ◌<◌, ltb, ℤ, pos, Float, length}
+use Rattle.std.specs.Prelude.{◌≡◌, refl, true, List, [], ◌∷◌, ◌++◌, ℕ, ◌/◌, ◌<◌, ltb, ℤ, pos, Float, length}
 use Rattle.std.proofs.Math.Path.{ap}
 use Rattle.signed.specs.Zed.{outside}
 use Rattle.refusal.specs.Refusals.{Told, gives, Line, ◌when◌, ◌at_place◌when◌, line_number, first, First, here, after, Clear}
@@ -44,6 +44,7 @@ use Rattle.capi.specs.Demand1.{line_row, line_placed, numbered, FlatDemand1, Wal
 
 -- ---- once over any order
 not_0 : (ls : List Line) {l : Line} → numbered ls ≡ true → First ls l → 0 < line_number l
+not_0 [] e f = elim f [ ]
 not_0 (l ∷ ls) e (here h) = by_bool (ltb 0 (line_number l)) (λ p. ltb-true 0 (line_number l) p) (λ p. absurd (true≢false (sym e ∙ rw p refl)))
 not_0 (m ∷ ls) e (after h f) = by_bool (ltb 0 (line_number m)) (λ p. not_0 ls (rw p at e) f) (λ p. absurd (true≢false (sym e ∙ rw p refl)))
 
