@@ -1,4 +1,4 @@
--- `judge`: the answer of the close, and where it is good the judge's on the list.
+-- `judge`: the answer of the close, and where it is good the judge's on the list, whose promise the search finds.
 use borrow.Author.Rules.{rules}
 use mathlib.Core.Path.{refl}
 use Rattle.forms.proofs.Arriving.{judged}
