@@ -7,7 +7,6 @@ use Rattle.forms.specs.declared.arguments.Word.TheVariants.{Ask, Walk, Sheet, Wr
 use Rattle.forms.specs.declared.arguments.Words.{Words}
 use Rattle.forms.specs.declared.arguments.Named.{Named}
 use Rattle.forms.specs.declared.arguments.Named.TheVariants.{Nothing, Argument}
-use Rattle.forms.specs.declared.arguments.Job.{Job}
 use Rattle.forms.specs.declared.arguments.Job.TheVariants.{Example, Walk as WalkOf, Ask as AskOf, Write as WriteOf}
 use Rattle.forms.specs.declared.arguments.Form.{Form}
 use Rattle.forms.specs.declared.arguments.Form.TheVariants.{Over, Sheet as SheetOf, Help as HelpOf, Version as VersionOf, Misplaced, Wrong}

@@ -2,9 +2,8 @@
 use Rattle.std.specs.Prelude.{ℕ, zero, suc, ◌≤◌, cond, List, [], ◌∷◌, ◌≡◌, refl, eqb, length}
 use Rattle.std.proofs.Common.{ap, ◌∙◌, arith, ne_eqb, lit≤}
 use Rattle.forms.specs.declared.arguments.Word.{Word}
-use Rattle.forms.specs.declared.arguments.Words.{Words}
-use Rattle.forms.specs.Arguments.{word_of, form_at, first_of, option_at, option_from, form_of}
-use Rattle.forms.specs.inner.Seen.{no_words, with_word, seen}
+use Rattle.forms.specs.Arguments.{word_of, form_at, option_at, option_from, form_of}
+use Rattle.forms.specs.inner.Seen.{no_words, seen}
 
 -- past the first word: it stays, and so does the place of an option that was seen
 seen_on : (first : Word) (ws : List (List ℕ)) (option i : ℕ) → 2 ≤ i

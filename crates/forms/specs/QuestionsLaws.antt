@@ -16,7 +16,6 @@ use Rattle.walk.specs.Walk.{course, paper_walk}
 use Rattle.console.specs.Walks.{printed_walk}
 use Rattle.console.specs.WalksLaws.{kept_first, steps_alike}
 use Rattle.forms.specs.Limits.{kept_lines, kept_numbers, most_counted}
-use Rattle.forms.specs.declared.questions.Question.{Question}
 use Rattle.forms.specs.declared.questions.Question.TheVariants.{Good, Bad, Returned}
 use Rattle.forms.specs.Pages.{refusal_note}
 use Rattle.forms.specs.Questions.{is_line, numbers_in, read_from, walk_in, walk_page, page_note}

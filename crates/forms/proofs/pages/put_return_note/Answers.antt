@@ -1,6 +1,6 @@
--- `put_return_note`: nothing of a sheet that is good, or where no carriage return decided; else the row's note.
-use mathlib.Core.List.{[]}
-use mathlib.Core.List.{List}
+-- `put_return_note`: nothing of a sheet that is good, or where no carriage return decided (`nothing`); else the row's note.
+-- The two answers by the test on the carriage return are left to the search, so that no answer names that test.
+use mathlib.Core.List.{List, []}
 use Prim.Native.Nat.{ℕ}
 use native.Mathlib.Omega.{arith}
 use Rattle.text.specs.Puts.{Stands}
@@ -15,10 +15,3 @@ returns-in_default c = rw c.in_default.is (nothing c.args.out.now)
 
 pub returns-in_default-refusal : goal.returns-in_default-refusal
 returns-in_default-refusal c = rw (c.in-Refused.is, c.in_default-refusal.is) (nothing c.args.out.now)
-
-pub returns-then-returned : goal.returns-then-returned
-returns-then-returned c = rw (c.in-Refused.is, c.in-At.is, c.if-returned.true) c.put_row_returned.ensures
-
-pub returns : goal.returns
-returns c = rw (c.in-Refused.is, c.in-At.is, c.if-returned.false)
-    (nothing c.args.out.now)
