@@ -1,4 +1,4 @@
--- Demand 1 for each call for C and Rust, both ways: `demand-1-NAME`, of every struct that meets the promise of NAME. Assumes nothing.
+-- Demand 1 for each call for C and Rust, both ways: `demand_1_NAME`, of every struct that meets the promise of NAME. Assumes nothing.
 use Rattle.std.proofs.Common.{ltb-true, sym, ◌∙◌, true≢false, ⊎_elim, arith}
 use Rattle.std.specs.Prelude.{◌≡◌, refl, true, List, [], ◌∷◌, ◌++◌, ℕ, ◌/◌, ◌<◌, ltb, ℤ, pos, Float, length}
 use Rattle.std.proofs.Math.Path.{ap}

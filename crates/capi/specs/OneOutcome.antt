@@ -1,4 +1,4 @@
--- No two outcomes satisfy the promise of a call: `one-NAME` for each call NAME. A promise is an equation for the struct and one for each lent list. Assumes nothing.
+-- No two outcomes satisfy the promise of a call: `one_NAME` for each call NAME. A promise is an equation for the struct and one for each lent list. Assumes nothing.
 use Rattle.std.specs.Prelude.{◌≡◌, refl, List, ℕ, ℤ, Float}
 use Rattle.std.proofs.Common.{sym, ◌∙◌, ap, ap₂}
 use Rattle.refusal.specs.Refusals.{Told}

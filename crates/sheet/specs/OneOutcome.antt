@@ -1,4 +1,4 @@
--- No two outcomes satisfy the promise of a call on a sheet: `one-NAME` for each entry NAME. Assumes nothing.
+-- No two outcomes satisfy the promise of a call on a sheet: `one_NAME` for each entry NAME. Assumes nothing.
 use Rattle.std.specs.Prelude.{◌≡◌, refl, List, ℕ}
 use Rattle.std.proofs.Common.{sym, ◌∙◌, ap, ap₂}
 use Rattle.refusal.specs.Refusals.{Told, gives, refused}
