@@ -1,4 +1,4 @@
--- Demand 1 for each entry on air, both ways: `demand-1-NAME`, of every answer that meets the promise of NAME. Assumes nothing.
+-- Demand 1 for each entry on air, both ways: `demand_1_NAME`, of every answer that meets the promise of NAME. Assumes nothing.
 use Rattle.std.specs.Prelude.{◌≡◌, List, [], ◌∷◌, ℕ, ℤ, pos, length}
 use Rattle.signed.specs.Zed.{up, outside}
 use Rattle.rows.specs.Limits.{first_kelvin, last_kelvin}

@@ -1,4 +1,4 @@
--- No two outcomes satisfy the promise of a call on air: `one-NAME` for each entry NAME. Assumes nothing.
+-- No two outcomes satisfy the promise of a call on air: `one_NAME` for each entry NAME. Assumes nothing.
 use Rattle.std.specs.Prelude.{◌≡◌, refl, List, ℕ, ℤ}
 use Rattle.std.proofs.Common.{sym, ◌∙◌}
 use Rattle.signed.specs.Zed.{up}

@@ -1,6 +1,6 @@
 -- Document 01's printed walk comes out byte for byte, over any accepted sheet: A 1, no fuel, start 200,000 mK, q 1,200,000,001 then 2,400,000. With no steps it is the header
 -- alone; over a sheet that is refused it is the header, then `refused` and the number, whatever the walk. Assumes nothing.
-use Rattle.std.specs.Prelude.{◌≡◌, List, [], ◌∷◌, ◌++◌, ℕ, ℤ, pos, replicate}
+use Rattle.std.specs.Prelude.{◌≡◌, List, [], ◌++◌, ℕ, ℤ, pos, replicate}
 use Rattle.std.proofs.Math.Path.{refl, ap}
 use Rattle.std.proofs.Common.{◌∙◌, lit≤}
 use Rattle.text.specs.Bytes.{bytes_of}
@@ -32,7 +32,9 @@ module _ {s : List ℕ} (ok : Accepted s) where
   pub header_alone : printed_walk (walk_told Good s (charge 1 0 0) (pos 200000) []) ≡ header_text
   unfolding printed_walk walked run steps_of beyond in_z lean oxygen_used
   header_alone =
-      ap printed_walk (past_sheet (start_lines document01 (charge 1 0 0) (pos 200000) 0 most_steps most_steps most_looks) (record { outs = []; end = ended (start_state (charge 1 0 0) (pos 200000)) }) ok)
+      ap printed_walk
+      (past_sheet (start_lines document01 (charge 1 0 0) (pos 200000) 0 most_steps most_steps most_looks)
+      (record { outs = []; end = ended (start_state (charge 1 0 0) (pos 200000)) }) ok)
 
 pub refused_page : (s : List ℕ) (ch : Charge) (mk : ℤ) (numbers : List ℤ) (row : ℕ) → printed_walk (walk_told (Refused (At 3 row)) s ch mk numbers) ≡ header_text ++ refused_line 3
 unfolding printed_walk

@@ -71,7 +71,9 @@ module _ (s : List ℕ) (r : Refusal) (e : paper_sheet (Refused r) ≡ judge_tol
     pub walk_refused : (numbers : List ℤ) → walk_told (Refused r) s ch n numbers ≡ walk_told Good s ch n numbers
     unfolding walked
     walk_refused numbers =
-        sym (stopped_by_sheet s r (start_lines document01 ch n (length numbers) most_steps most_steps most_looks) (run document01 s (start_state ch n) (steps_of (length numbers / step_numbers) numbers)) e)
+        sym
+        (stopped_by_sheet s r (start_lines document01 ch n (length numbers) most_steps most_steps most_looks)
+        (run document01 s (start_state ch n) (steps_of (length numbers / step_numbers) numbers)) e)
 
   asked_refused : (q : OfGas) (fs : List (List ℕ)) → gas_reply q (Refused r) s fs ≡ gas_reply q Good s fs
   asked_refused q fs = go (is_count start_numbers (count_all 0 fs)) (charge_in (values_of fs)) (get_or (values_of fs) charge_numbers (pos 0))

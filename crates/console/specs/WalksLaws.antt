@@ -40,7 +40,8 @@ use Rattle.walk.specs.declared.WalkAnswer.{WalkAnswer}
 use Rattle.walk.specs.declared.WalkAnswer.TheVariants.{Refused}
 use Rattle.walk.specs.Lists.{Lists, lists, laid}
 use Rattle.walk.specs.Step.{State, Out}
-use Rattle.walk.specs.Walk.{Trace, End, ended, cut, run, steps_of, wrong_steps, start_lines, start_state, walked, Course, course_of, course, outs_of, temperatures_of, rests_of, looks_of, paper_walk, Walks}
+use Rattle.walk.specs.Walk.{Trace, End, ended, cut, run, steps_of, wrong_steps, start_lines, start_state, walked, Course, course_of, course}
+use Rattle.walk.specs.Walk.{outs_of, temperatures_of, rests_of, looks_of, paper_walk, Walks}
 use Rattle.walk.specs.RunLaws.{step_done, of_run}
 use Rattle.console.specs.Limits.{held_numbers, start_numbers}
 use Rattle.console.specs.declared.walks.Layout.{Layout}

@@ -103,7 +103,8 @@ module _ (verdict : SheetAnswer) (s : List ℕ) (n : ℕ) (lines : List (List �
   pub question_printed : printed_walk (question_told verdict s n (sets before 0 (numbers_in lines))) ≡ walk_page verdict s (numbers_in lines)
   question_printed = ap printed_walk question_told_lem
 
-  pub question_noted : (a : WalkAnswer) → paper_walk a ≡ course (question_told verdict s n (sets before 0 (numbers_in lines))) → refusal_note verdict (paper_walk a) ≡ page_note verdict s (numbers_in lines)
+  pub question_noted : (a : WalkAnswer) → paper_walk a ≡ course (question_told verdict s n (sets before 0 (numbers_in lines)))
+      → refusal_note verdict (paper_walk a) ≡ page_note verdict s (numbers_in lines)
   question_noted a p = ap (refusal_note verdict) (p ∙ ap course question_told_lem)
 
 -- a line whole is its fields from the start

@@ -15,7 +15,7 @@ use Rattle.rows.specs.Limits.{first_kelvin, last_kelvin}
 use Rattle.air.specs.Limits.{look_places, coldest, hottest}
 use Rattle.air.specs.Halving.{middle, halving, eleven, Halved}
 use Rattle.air.specs.HalvingLaws.{Turn, to_upper, to_lower, Kept, places_are}
-use Rattle.air.specs.Inverse.{temperature, rest, looks}
+use Rattle.air.specs.Inverse.{temperature, rest}
 use Rattle.air.specs.InverseLaws.{no_looks, looks_are, row_kept, top_temperature, top_rest, temperature_is, rest_is}
 use Rattle.burning.specs.declared.Masses.{Masses}
 use Rattle.gas.specs.declared.TemperatureAnswer.TheVariants.{At}

@@ -1,4 +1,4 @@
--- Demand 1 for each entry on a gas, both ways and over any weights: `demand-1-NAME`, of every answer that meets the promise of NAME. Assumes nothing.
+-- Demand 1 for each entry on a gas, both ways and over any weights: `demand_1_NAME`, of every answer that meets the promise of NAME. Assumes nothing.
 use Rattle.std.specs.Prelude.{◌≡◌, List, ◌++◌, ℕ, ℤ, length}
 use Rattle.signed.specs.Zed.{up}
 use Rattle.refusal.specs.Refusals.{Demand1}

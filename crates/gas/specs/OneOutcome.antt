@@ -1,4 +1,4 @@
--- No two outcomes satisfy the promise of a call on a gas: `one-NAME` for each entry NAME, over any weights. Assumes nothing.
+-- No two outcomes satisfy the promise of a call on a gas: `one_NAME` for each entry NAME, over any weights. Assumes nothing.
 use Rattle.std.specs.Prelude.{◌≡◌, refl, List, ℕ, ℤ}
 use Rattle.std.proofs.Common.{sym, ◌∙◌}
 use Rattle.refusal.specs.Refusals.{Told, gives, refused}

@@ -44,6 +44,7 @@ fn along(here: Heat, next: Heat, f: u64) -> Heat
 }
 
 // The heat at a temperature; at 2,000,000 mK no row is read but the last.
+#[tactic(auto, using(crate::proofs::LastRow::last_heat))]
 pub(crate) fn at_temperature(
     gas: Masses,
     t: Millikelvin,

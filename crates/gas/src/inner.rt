@@ -133,6 +133,7 @@ pub fn specific_judged(
 }
 
 // The temperature of a heat with the rest, over a sheet that was judged: refusals 10, 4, 5, 8 and 9 tested.
+#[tactic(auto, using(crate::proofs::Short::short_told))]
 pub fn temperature_judged(
     charge: Charge,
     target: Heat,

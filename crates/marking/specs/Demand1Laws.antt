@@ -1,4 +1,4 @@
--- Demand 1 for each entry on figures and marks that can refuse, both ways: `demand-1-NAME`, of every answer that meets the promise of NAME. Assumes nothing.
+-- Demand 1 for each entry on figures and marks that can refuse, both ways: `demand_1_NAME`, of every answer that meets the promise of NAME. Assumes nothing.
 use Rattle.std.specs.Prelude.{◌≡◌, List, ℕ, ℤ}
 use Rattle.refusal.specs.Refusals.{Demand1}
 use Rattle.refusal.specs.RefusalsLaws.{demand_1}

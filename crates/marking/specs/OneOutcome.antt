@@ -1,4 +1,4 @@
--- No two outcomes satisfy the promise of a call on figures and typed answers: `one-NAME` for each entry NAME. Assumes nothing.
+-- No two outcomes satisfy the promise of a call on figures and typed answers: `one_NAME` for each entry NAME. Assumes nothing.
 use Rattle.std.specs.Prelude.{◌≡◌, refl, Bool, true, false, List, ℕ, ℤ, Float}
 use Rattle.std.proofs.Common.{sym, ◌∙◌}
 use Rattle.std.specs.Float.{binary64}

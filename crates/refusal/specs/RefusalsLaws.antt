@@ -1,5 +1,5 @@
 -- Demand 1, over any order of refusals (`demand_1`): a call tells refusal n exactly when n's condition holds and none before it does, and gives its values
--- exactly when no condition holds. Every entry's promise is an equation with `first`; `demand-1-NAME` in its crate's Demand1Laws.antt is this law for the entry NAME. Assumes nothing.
+-- exactly when no condition holds. Every entry's promise is an equation with `first`; `demand_1_NAME` in its crate's Demand1Laws.antt is this law for the entry NAME. Assumes nothing.
 use Rattle.std.specs.Prelude.{◌≡◌, refl, List, [], ◌∷◌, ◌⊎◌, ℕ}
 use Rattle.std.proofs.Common.{sym, ap, ◌∙◌, inl, inr, ⊎_elim, arith}
 use Rattle.refusal.specs.declared.Refusal.{Refusal}

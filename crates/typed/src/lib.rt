@@ -84,6 +84,7 @@ fn first_part(b: u8) -> Part
 }
 
 // One byte more before the point.
+#[tactic(auto, unfolding(crate::specs::Typed::next_whole))]
 fn next_whole(m: u64, b: u8) -> Part
     ensures { result ≡ next_whole m b }
 {
@@ -98,6 +99,7 @@ fn next_whole(m: u64, b: u8) -> Part
 }
 
 // One byte more after the point, where k digits stand.
+#[tactic(auto, unfolding(crate::specs::Typed::next_fraction))]
 fn next_fraction(m: u64, k: u64, b: u8) -> Part
     ensures { result ≡ next_fraction m k b }
 {
@@ -270,6 +272,7 @@ fn pattern(s: Hex) -> Number
 }
 
 // Whether the text is `x` and 16 more bytes.
+#[tactic(auto, unfolding(crate::specs::Typed::is_pattern))]
 fn is_pattern(text: &[u8]) -> bool
     ensures { result ≡ is_pattern text.now }
 {

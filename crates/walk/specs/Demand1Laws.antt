@@ -1,6 +1,6 @@
 -- Demand 1 of a walk, both ways and over any weights: the refusals of its start (`demand_1_walk`), those of a step as one order (`judge_is`, `demand_1_step`), and that a walk is
 -- stopped at step i with n exactly when the steps before are accepted and n is the first line of step i (`stopped_exactly`, and of the answer `walk_stopped`). Assumes nothing.
-use Rattle.std.specs.Prelude.{◌≡◌, ◌↔◌, List, [], ◌∷◌, ◌++◌, ℕ, zero, suc, ◌/◌, ◌<◌, ℤ, pos, length, get_or, take}
+use Rattle.std.specs.Prelude.{◌≡◌, ◌↔◌, List, [], ◌∷◌, ◌++◌, ℕ, zero, suc, ◌/◌, ℤ, pos, length, take}
 use Rattle.std.proofs.Math.Path.{refl, sym, ap}
 use Rattle.std.proofs.Common.{ap₂, ◌∙◌, le_of_suc-le-suc, not-suc-le-zero, arith}
 use Rattle.refusal.specs.Refusals.{Told, gives, refused, Line, condition, first, line_number, First, Clear, Demand1}
@@ -16,8 +16,8 @@ use Rattle.walk.specs.declared.WalkAnswer.{WalkAnswer}
 use Rattle.walk.specs.declared.Step.{Step}
 use Rattle.walk.specs.Step.{State, Asked, Out, held, ask_lines, asked_of, asked, out_of, sought, judge, step_order}
 use Rattle.walk.specs.Lists.{Lists}
-use Rattle.walk.specs.Walk.{Trace, End, ended, cut, more, onward, run, no_step, StoppedAt, FirstRefused, steps_of, start_lines, start_state, walked}
-use Rattle.walk.specs.Walk.{walked_into, Course, done, stopped, course_of, course, paper_walk, Walks}
+use Rattle.walk.specs.Walk.{Trace, End, ended, cut, more, onward, run, StoppedAt, FirstRefused, steps_of, start_lines, start_state, walked}
+use Rattle.walk.specs.Walk.{walked_into, stopped, course_of, course, paper_walk, Walks}
 
 -- ---- a step
 module _ (w : Weights) (s : List ℕ) (st : State) (p : Step) where

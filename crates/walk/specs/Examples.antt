@@ -23,7 +23,7 @@ use Rattle.burning.specs.declared.Gas.{Gas}
 use Rattle.burning.specs.Burning.{document01, beyond, lean, oxygen_used}
 use Rattle.burning.specs.Fuel.{no_fuel}
 use Rattle.gas.specs.Heat.{gas_heat}
-use Rattle.gas.specs.Examples.{charge, at, air_alone, part_found}
+use Rattle.gas.specs.Examples.{charge, air_alone, part_found}
 use Rattle.air.specs.declared.Millikelvin.{Millikelvin}
 use Rattle.refusal.specs.declared.Refusal.{Refusal}
 use Rattle.burning.specs.BurningLaws.{document01_sound}

@@ -1,6 +1,6 @@
 -- What the heats of src/heats.rt ask and show past the refusals: masses whose heats stay inside 64 bits, a lent sheet and a lent air column, and the heats of
 -- two neighbouring kelvins.
-use Rattle.std.specs.Prelude.{◌≡◌, List, ℕ, ◌+◌, ◌*◌, ◌/◌, ◌<◌, ◌≤◌, ℤ, pos, ◌+ℤ◌, ◌-ℤ◌, ◌≤ℤ◌}
+use Rattle.std.specs.Prelude.{◌≡◌, List, ℕ, ◌*◌, ◌/◌, ◌<◌, ◌≤◌, ℤ, pos, ◌+ℤ◌, ◌-ℤ◌, ◌≤ℤ◌}
 use Rattle.signed.specs.Zed.{up}
 use Rattle.rows.specs.Rows.{rows_h}
 use Rattle.sheet.specs.Sheet.{Accepted}

@@ -1,25 +1,44 @@
 -- `mark_number`: what is no number is refused, and a number counts by its exact value (proofs/Spans.antt, proofs/Patterns.antt). Assumes nothing.
 use mathlib.Core.List.{[]}
 use mathlib.Core.Path.{◌≡◌, refl, sym, ap, ◌∙◌}
-use mathlib.Core.Bool.{not}
+use mathlib.Core.Bool.{Bool, not}
 use mathlib.Core.List.{◌∷◌}
-use Prim.Native.Nat.{◌^◌}
+use Prim.Native.Nat.{ℕ, ◌*◌, ◌^◌}
 use native.Mathlib.Omega.{arith}
 use lib.Pow.{pow_pos}
-use lib.Ieee.{binary64, of_fields}
+use lib.IntN.{ℤ, ◌+ℤ◌, ◌-ℤ◌}
+use lib.Ieee.{Float, binary64, of_fields}
 use lib.Ieee.Scale.{finite}
 use lib.Ieee.Exact.{HasValue}
 use mir.Syntax.{w64}
-use mir.Val.{to_z, of_z}
-use Rattle.signed.specs.Zed.{back}
+use mir.Val.{SFits}
+use Rattle.signed.specs.Zed.{read, back}
 use Rattle.refusal.specs.Refusals.{gives, first, ◌when◌}
 use Rattle.marking.specs.Marking.{near}
-use Rattle.marking.specs.Exact.{turned, sized}
+use Rattle.marking.specs.declared.exact.Fields.{Fields}
+use Rattle.marking.specs.Exact.{FieldsOf, turned, sized, spans}
 use Rattle.marking.proofs.Spans.{near_value}
 use Rattle.marking.specs.MarkingLaws.{nan_none, no_nan}
 use Rattle.marking.proofs.Patterns.{fields_value, value_finite, top_none}
 use Rattle.marking.proofs.Ends.{Ranged, ranged, turned_fits, low_fits, high_fits, high_most}
 use Rattle.marking.proofs.mark_number.Goals as goal
+
+-- the machine reads the key turned over
+middle : (s : Bool) (key window m : ℤ) → SFits w64 key → Ranged key window → m ≡ turned s (read key) → read m ≡ turned s key
+middle s key window m K r e = rw (e, back K) (back (turned_fits s r))
+
+-- the exact value that the fields stand for
+value : (x : Float) (f : Fields) → FieldsOf x f → (f.exponent ≡ 2047 → ⊥) → HasValue x f.negative (sized f.exponent f.fraction) (2 ^ 1074)
+value x f p e = rw p.is at (fields_value f.negative f.exponent f.fraction (omega (arith, p.exponent_lt, e)))
+
+-- the whole answer, by what `lies` returned
+told : (s : ℕ) (x : Float) (f : Fields) (key window : ℤ) (b : Bool) → FieldsOf x f → (f.exponent ≡ 2047 → ⊥)
+    → b ≡ spans (s * sized f.exponent f.fraction) (2 ^ 1074) (turned f.negative key -ℤ window) (turned f.negative key +ℤ window)
+    → first (11 when not (finite x) ∷ []) (near s x key window) ≡ gives b
+told s x f key window b p e l =
+    let v = value x f p e in
+    rw (value_finite x f.negative (sized f.exponent f.fraction) (2 ^ 1074) v)
+    (ap gives (near_value s x f.negative (sized f.exponent f.fraction) (2 ^ 1074) key window (pow_pos 1074) v ∙ sym l))
 
 pub returns-then-x : goal.returns-then-x
 returns-then-x c = sym (rw (nan_none c.args.x c.if-x.true) refl)
@@ -33,67 +52,50 @@ returns-then-fields-eq2047 c = let p = c.fields_of-fields in
     sym (rw (sym (ap finite top) ∙ top_none p.result.negative p.result.fraction) refl)
 
 pub turn-middle-requires : goal.turn-middle-requires
-turn-middle-requires c = let in_range : Ranged c.args.key c.args.window =
-    ranged c.args.key c.args.window c.requires.fact_3 in
-    rw (back c.ranges.key) (turned_fits c.fields_of-fields.result.negative in_range)
+turn-middle-requires c = rw (back c.ranges.key) (turned_fits c.fields_of-fields.result.negative (ranged c.args.key c.args.window c.requires.fact_3))
 
 pub overflow_sub-middle : goal.overflow_sub-middle
-overflow_sub-middle c = let in_range : Ranged c.args.key c.args.window =
-    ranged c.args.key c.args.window c.requires.fact_3 in
-    let middle : to_z w64 (of_z w64 c.turn-middle.result) ≡ turned c.fields_of-fields.result.negative c.args.key =
-    rw (c.turn-middle.ensures, back c.ranges.key) (back (turned_fits c.fields_of-fields.result.negative in_range)) in
-    rw (middle, back c.ranges.window) (low_fits c.fields_of-fields.result.negative in_range)
+overflow_sub-middle c =
+    let p = c.fields_of-fields.result.negative in
+    let r = ranged c.args.key c.args.window c.requires.fact_3 in
+    let m = middle p c.args.key c.args.window c.turn-middle.result c.ranges.key r c.turn-middle.ensures in
+    rw (m, back c.ranges.window) (low_fits p r)
 
 pub overflow_add-middle : goal.overflow_add-middle
-overflow_add-middle c = let in_range : Ranged c.args.key c.args.window =
-    ranged c.args.key c.args.window c.requires.fact_3 in
-    let middle : to_z w64 (of_z w64 c.turn-middle.result) ≡ turned c.fields_of-fields.result.negative c.args.key =
-    rw (c.turn-middle.ensures, back c.ranges.key) (back (turned_fits c.fields_of-fields.result.negative in_range)) in
-    rw (middle, back c.ranges.window) (high_fits c.fields_of-fields.result.negative in_range)
+overflow_add-middle c =
+    let p = c.fields_of-fields.result.negative in
+    let r = ranged c.args.key c.args.window c.requires.fact_3 in
+    let m = middle p c.args.key c.args.window c.turn-middle.result c.ranges.key r c.turn-middle.ensures in
+    rw (m, back c.ranges.window) (high_fits p r)
 
 pub lies-requires : goal.lies-requires
-lies-requires c = let in_range : Ranged c.args.key c.args.window =
-    ranged c.args.key c.args.window c.requires.fact_3 in
-    let middle : to_z w64 (of_z w64 c.turn-middle.result) ≡ turned c.fields_of-fields.result.negative c.args.key =
-    rw (c.turn-middle.ensures, back c.ranges.key) (back (turned_fits c.fields_of-fields.result.negative in_range)) in
-    let p = c.fields_of-fields in
+lies-requires c =
+    let p = c.fields_of-fields.result.negative in
+    let r = ranged c.args.key c.args.window c.requires.fact_3 in
+    let m = middle p c.args.key c.args.window c.turn-middle.result c.ranges.key r c.turn-middle.ensures in
     record {
       fact_1 = c.requires.fact_1;
       fact_2 = c.requires.fact_2;
-      fact_3 = p.ensures.fraction_lt;
-      fact_4 = rw (middle, back c.ranges.window, back (high_fits p.result.negative in_range)) (high_most p.result.negative in_range);
+      fact_3 = c.fields_of-fields.ensures.fraction_lt;
+      fact_4 = rw (m, back c.ranges.window, back (high_fits p r)) (high_most p r);
     }
 
 pub returns-then-lies : goal.returns-then-lies
-returns-then-lies c = let value : let p = c.fields_of-fields.result in HasValue c.args.x p.negative (sized p.exponent p.fraction) (2 ^ 1074) =
-    let p = c.fields_of-fields in
-    rw p.ensures.is at (fields_value p.result.negative p.result.exponent p.result.fraction (omega (arith, p.ensures.exponent_lt, c.if-fields-eq2047.false))) in
-    let in_range : Ranged c.args.key c.args.window =
-    ranged c.args.key c.args.window c.requires.fact_3 in
-    let middle : to_z w64 (of_z w64 c.turn-middle.result) ≡ turned c.fields_of-fields.result.negative c.args.key =
-    rw (c.turn-middle.ensures, back c.ranges.key) (back (turned_fits c.fields_of-fields.result.negative in_range)) in
-    let told : let a = c.args in first (11 when not (finite a.x) ∷ []) (near a.scale a.x a.key a.window) ≡ gives c.lies.result =
-    let a = c.args in
-    let p = c.fields_of-fields.result in
-    let v = value in
-    let l = rw (middle, back c.ranges.window, back (low_fits p.negative in_range), back (high_fits p.negative in_range)) at c.lies.ensures in
-    rw (value_finite a.x p.negative (sized p.exponent p.fraction) (2 ^ 1074) v)
-    (ap gives (near_value a.scale a.x p.negative (sized p.exponent p.fraction) (2 ^ 1074) a.key a.window (pow_pos 1074) v ∙ sym l)) in
-    sym (told ∙ ap gives c.if-lies.true)
+returns-then-lies c =
+    let p = c.fields_of-fields.result.negative in
+    let r = ranged c.args.key c.args.window c.requires.fact_3 in
+    let m = middle p c.args.key c.args.window c.turn-middle.result c.ranges.key r c.turn-middle.ensures in
+    let l = rw (m, back c.ranges.window, back (low_fits p r), back (high_fits p r)) at c.lies.ensures in
+    sym
+    (told c.args.scale c.args.x c.fields_of-fields.result c.args.key c.args.window c.lies.result c.fields_of-fields.ensures c.if-fields-eq2047.false l
+    ∙ ap gives c.if-lies.true)
 
 pub returns-else-lies : goal.returns-else-lies
-returns-else-lies c = let value : let p = c.fields_of-fields.result in HasValue c.args.x p.negative (sized p.exponent p.fraction) (2 ^ 1074) =
-    let p = c.fields_of-fields in
-    rw p.ensures.is at (fields_value p.result.negative p.result.exponent p.result.fraction (omega (arith, p.ensures.exponent_lt, c.if-fields-eq2047.false))) in
-    let in_range : Ranged c.args.key c.args.window =
-    ranged c.args.key c.args.window c.requires.fact_3 in
-    let middle : to_z w64 (of_z w64 c.turn-middle.result) ≡ turned c.fields_of-fields.result.negative c.args.key =
-    rw (c.turn-middle.ensures, back c.ranges.key) (back (turned_fits c.fields_of-fields.result.negative in_range)) in
-    let told : let a = c.args in first (11 when not (finite a.x) ∷ []) (near a.scale a.x a.key a.window) ≡ gives c.lies.result =
-    let a = c.args in
-    let p = c.fields_of-fields.result in
-    let v = value in
-    let l = rw (middle, back c.ranges.window, back (low_fits p.negative in_range), back (high_fits p.negative in_range)) at c.lies.ensures in
-    rw (value_finite a.x p.negative (sized p.exponent p.fraction) (2 ^ 1074) v)
-    (ap gives (near_value a.scale a.x p.negative (sized p.exponent p.fraction) (2 ^ 1074) a.key a.window (pow_pos 1074) v ∙ sym l)) in
-    sym (told ∙ ap gives c.if-lies.false)
+returns-else-lies c =
+    let p = c.fields_of-fields.result.negative in
+    let r = ranged c.args.key c.args.window c.requires.fact_3 in
+    let m = middle p c.args.key c.args.window c.turn-middle.result c.ranges.key r c.turn-middle.ensures in
+    let l = rw (m, back c.ranges.window, back (low_fits p r), back (high_fits p r)) at c.lies.ensures in
+    sym
+    (told c.args.scale c.args.x c.fields_of-fields.result c.args.key c.args.window c.lies.result c.fields_of-fields.ensures c.if-fields-eq2047.false l
+    ∙ ap gives c.if-lies.false)

@@ -3,7 +3,6 @@ use Rattle.wording.specs.TextsLaws.{used_none, used_more, used_end}
 use lib.ListN.{length}
 use native.Mathlib.Omega.{arith}
 use mathlib.Core.Path.{ap}
-use Prim.Native.Nat.{◌-◌}
 use Rattle.wording.proofs.count_looks.Goals as goal
 
 pub loop-i-init : goal.loop-i-init

@@ -3,7 +3,6 @@ use Rattle.wording.specs.TextsLaws.{fields_more}
 use Rattle.text.specs.PutsLaws.{puts_none, puts_then, puts_wider}
 use native.Mathlib.Omega.{arith}
 use mathlib.Core.Path.{◌≡◌}
-use Prim.Native.Nat.{◌-◌}
 use Rattle.wording.proofs.put_first.Goals as goal
 
 pub loop-i-init : goal.loop-i-init

@@ -1,5 +1,4 @@
 -- `reply_burn`: the numbers of a charge burn, any other fields are a misfit.
-use borrow.Author.Tests.{not-true, not-false}
 use mathlib.Core.Path.{refl}
 use mathlib.Core.List.{List}
 use lib.IntN.{ℤ, pos}

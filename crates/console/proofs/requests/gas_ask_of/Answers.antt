@@ -1,7 +1,6 @@
 -- `gas_ask_of`: a charge's numbers and one more over a good sheet are asked; a refused sheet, and then other fields, are not: the cases of `gas_ask_of`.
-use borrow.Author.Tests.{not-true, not-false}
 use borrow.Author.Rules.{rules}
-use mathlib.Core.Path.{◌≡◌, refl}
+use mathlib.Core.Path.{refl}
 use mathlib.Core.List.{List}
 use lib.IntN.{ℤ, pos}
 use lib.ListN.{get_or, replicate}
@@ -10,12 +9,11 @@ use mir.Val.{SFits}
 use Rattle.signed.specs.Zed.{back}
 use Rattle.fields.specs.Fields.{fields_from, values_of}
 use Rattle.fields.specs.FieldsLaws.{exactly, not_exactly}
-use Rattle.sheet.specs.declared.SheetAnswer.{SheetAnswer}
 use Rattle.sheet.specs.declared.SheetAnswer.TheVariants.{Good, Refused as SheetRefused}
 use Rattle.burning.specs.Burning.{charge_numbers, charge_in}
 use Rattle.console.specs.declared.requests.GasAsk.TheVariants.{Misfit}
 use Rattle.console.specs.Limits.{start_numbers}
-use Rattle.console.specs.Requests.{ask_of, gas_ask_of}
+use Rattle.console.specs.Requests.{ask_of}
 use Rattle.console.proofs.requests.gas_ask_of.Goals as goal
 
 pub returns-then-not-read_exactly : goal.returns-then-not-read_exactly
@@ -24,14 +22,13 @@ returns-then-not-read_exactly c = let fs = fields_from c.args.line.now c.args.fr
     c.read_exactly.ensures.value c.if-not-read_exactly.true
 
 pub returns-in-Good : goal.returns-in-Good
-returns-in-Good c = let asked : (v : SheetAnswer) → let l = c.read_exactly.new.list in ask_of (charge_in l) (get_or l charge_numbers (pos 0)) v ≡ gas_ask_of (fields_from c.args.line.now c.args.from) v =
-    λ v. exactly (λ (l : List ℤ). ask_of (charge_in l) (get_or l charge_numbers (pos 0)) v) Misfit (fields_from c.args.line.now c.args.from)
-    (replicate start_numbers (pos 0)) c.read_exactly.new.list start_numbers refl c.read_exactly.ensures.value c.if-not-read_exactly.false refl c.read_exactly.ensures.stored in
+returns-in-Good c =
     let f : SFits w64 (get_or c.read_exactly.new.list charge_numbers (pos 0)) = search rules in
-    rw (c.in-Good.is, c.charge_in.ensures, back f) (asked Good)
+    rw (c.in-Good.is, c.charge_in.ensures, back f)
+    (exactly (λ (l : List ℤ). ask_of (charge_in l) (get_or l charge_numbers (pos 0)) Good) Misfit (fields_from c.args.line.now c.args.from)
+    (replicate start_numbers (pos 0)) c.read_exactly.new.list start_numbers refl c.read_exactly.ensures.value c.if-not-read_exactly.false refl c.read_exactly.ensures.stored)
 
 pub returns-in-Refused : goal.returns-in-Refused
-returns-in-Refused c = let asked : (v : SheetAnswer) → let l = c.read_exactly.new.list in ask_of (charge_in l) (get_or l charge_numbers (pos 0)) v ≡ gas_ask_of (fields_from c.args.line.now c.args.from) v =
-    λ v. exactly (λ (l : List ℤ). ask_of (charge_in l) (get_or l charge_numbers (pos 0)) v) Misfit (fields_from c.args.line.now c.args.from)
-    (replicate start_numbers (pos 0)) c.read_exactly.new.list start_numbers refl c.read_exactly.ensures.value c.if-not-read_exactly.false refl c.read_exactly.ensures.stored in
-    rw c.in-Refused.is (asked (SheetRefused c.in-Refused.refusal))
+returns-in-Refused c = rw c.in-Refused.is
+    (exactly (λ (l : List ℤ). ask_of (charge_in l) (get_or l charge_numbers (pos 0)) (SheetRefused c.in-Refused.refusal)) Misfit (fields_from c.args.line.now c.args.from)
+    (replicate start_numbers (pos 0)) c.read_exactly.new.list start_numbers refl c.read_exactly.ensures.value c.if-not-read_exactly.false refl c.read_exactly.ensures.stored)

@@ -8,7 +8,9 @@ use Rattle.walk.specs.Limits.{step_numbers}
 use Rattle.forms.proofs.questions.keep_line.Given as goal
 
 abbrev pub invariant-loop-i : goal.invariant-loop-i
-invariant-loop-i l = (l.i ≤ step_numbers) × (length l.numbers ≡ length l.initial.numbers) × (sets l.initial.numbers (step_numbers * l.k) l.line ≡ sets l.numbers (step_numbers * l.k + l.i) (drop l.i l.line))
+invariant-loop-i l =
+    (l.i ≤ step_numbers) × (length l.numbers ≡ length l.initial.numbers)
+    × (sets l.initial.numbers (step_numbers * l.k) l.line ≡ sets l.numbers (step_numbers * l.k + l.i) (drop l.i l.line))
 
 abbrev pub decreases-loop-i : goal.decreases-loop-i
 decreases-loop-i l = step_numbers - l.i

@@ -1,9 +1,8 @@
--- `at_temperature`: at the last temperature the last row alone; else on the line from the kelvin below to the next.
+-- `at_temperature`: at the last temperature the last row alone (`last_heat`, which its attribute names); else on the line from the kelvin below to the next.
 use borrow.Author.Rules.{rules}
 use mathlib.Core.Path.{refl, sym, ap, ◌∙◌}
 use Prim.Native.Nat.{◌+◌, ◌*◌, ◌/◌, ◌%◌, ◌<◌}
 use native.Mathlib.Omega.{arith}
-use lib.Arith.{lt_of_le-ne}
 use mir.Syntax.{w64}
 use mir.Val.{SFits}
 use Rattle.signed.specs.Zed.{Tested, tested_plain, tested_nat}
@@ -16,13 +15,6 @@ pub to_u64-mk-requires : goal.to_u64-mk-requires
 to_u64-mk-requires c = let t_fits : SFits w64 c.args.t.0 =
     search rules in
     tested_plain coldest hottest t_fits (sym c.requires.1) refl
-
-pub returns-then-mk-eq-LAST_MK : goal.returns-then-mk-eq-LAST_MK
-returns-then-mk-eq-LAST_MK c = let t_fits : SFits w64 c.args.t.0 =
-    search rules in
-    let mk : Tested coldest hottest c.args.t.0 c.to_u64-mk.result =
-    tested_nat coldest hottest t_fits (sym c.requires.1) refl c.to_u64-mk.ensures in
-    c.at_kelvin.ensures ∙ ap (heat_of c.args.gas c.args.sheet.now) (sym c.if-mk-eq-LAST_MK.true ∙ mk.number)
 
 pub at_kelvin-requires-2 : goal.at_kelvin-requires-2
 at_kelvin-requires-2 c = let t_fits : SFits w64 c.args.t.0 =
@@ -37,7 +29,7 @@ at_kelvin-requires-3 c = let t_fits : SFits w64 c.args.t.0 =
     let mk : Tested coldest hottest c.args.t.0 c.to_u64-mk.result =
     tested_nat coldest hottest t_fits (sym c.requires.1) refl c.to_u64-mk.ensures in
     let not_last : c.to_u64-mk.result < hottest =
-    lt_of_le-ne mk.most c.if-mk-eq-LAST_MK.false in
+    omega (arith, mk.most) in
     (c.requires.0, omega (arith, mk.least), omega (arith, not_last))
 
 pub along-requires : goal.along-requires
@@ -46,7 +38,7 @@ along-requires c = let t_fits : SFits w64 c.args.t.0 =
     let mk : Tested coldest hottest c.args.t.0 c.to_u64-mk.result =
     tested_nat coldest hottest t_fits (sym c.requires.1) refl c.to_u64-mk.ensures in
     let not_last : c.to_u64-mk.result < hottest =
-    lt_of_le-ne mk.most c.if-mk-eq-LAST_MK.false in
+    omega (arith, mk.most) in
     let m = mk in
     (rw (c.at_kelvin-2.ensures, c.at_kelvin-3.ensures) (heats_rise c.requires.0 _ (omega (arith, m.least)) (omega (arith, not_last))), omega arith)
 
@@ -56,7 +48,7 @@ returns c = let t_fits : SFits w64 c.args.t.0 =
     let mk : Tested coldest hottest c.args.t.0 c.to_u64-mk.result =
     tested_nat coldest hottest t_fits (sym c.requires.1) refl c.to_u64-mk.ensures in
     let not_last : c.to_u64-mk.result < hottest =
-    lt_of_le-ne mk.most c.if-mk-eq-LAST_MK.false in
+    omega (arith, mk.most) in
     let n = c.to_u64-mk.result in
     let m = mk in
     c.along.ensures

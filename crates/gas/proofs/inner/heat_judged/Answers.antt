@@ -1,5 +1,5 @@
 -- `heat_judged`: past refusals 4, 5 and 6 the gas burns and the table covers the temperature (`readable_of`), so its heat is told (`told_through`).
-use mathlib.Core.List.{List, []}
+use mathlib.Core.List.{[]}
 use mathlib.Core.Path.{◌≡◌, sym, ap, ◌∙◌}
 use Rattle.refusal.specs.Refusals.{first}
 use Rattle.signed.specs.Zed.{up}

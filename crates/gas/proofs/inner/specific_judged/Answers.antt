@@ -1,5 +1,5 @@
 -- `specific_judged`: past refusals 4, 5 and 6 the gas burns and the table covers the temperature (`readable_of`), so its content of 1 g is told.
-use mathlib.Core.List.{List, []}
+use mathlib.Core.List.{[]}
 use borrow.Author.Rules.{rules}
 use mathlib.Core.Path.{◌≡◌, sym, ap, ◌∙◌}
 use mir.Syntax.{w64}

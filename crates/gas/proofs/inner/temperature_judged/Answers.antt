@@ -1,24 +1,19 @@
--- `temperature_judged`: the list first (`short_search`), then the charge (`stopped_told`), then what `find` tells of the heat (`passed_told`).
+-- `temperature_judged`: the list first (`short_told`, which its attribute names), then the charge (`stopped_told`), then what `find` tells of the heat (`passed_told`).
 use mathlib.Core.Path.{◌≡◌, sym, ap, ◌∙◌}
+use native.Mathlib.Omega.{arith}
 use lib.ListN.{length}
-use Rattle.refusal.specs.declared.Refusal.TheVariants.{Plain}
 use Rattle.refusal.specs.Refusals.{gives, first}
 use Rattle.refusal.specs.OrdersLaws.{given}
-use Rattle.gas.specs.AnswersLaws.{searchable_of, past_search, short_search, stopped_told, passed_told}
+use Rattle.gas.specs.AnswersLaws.{searchable_of, past_search, stopped_told, passed_told}
 use Rattle.burning.specs.Answers.{paper_gas}
 use Rattle.gas.specs.Answers.{search_order}
 use Rattle.gas.specs.Heat.{gas_heat}
 use Rattle.burning.specs.Burning.{document01, gas_of}
 use Rattle.gas.proofs.inner.temperature_judged.Goals as goal
 
-pub returns-then-looks-lt-LOOK_PLACES : goal.returns-then-looks-lt-LOOK_PLACES
-returns-then-looks-lt-LOOK_PLACES c = stopped_told (gas_heat document01 c.args.sheet.now (gas_of c.args.charge)) c.args.target.0 c.args.looks.now
-    (search_order document01 c.args.charge c.args.sheet.now (length c.args.looks.now)) _ (Plain 10)
-    (short_search c.requires.0 document01 c.args.charge (length c.args.looks.now) c.if-looks-lt-LOOK_PLACES.true)
-
 pub find-requires : goal.find-requires
 find-requires c = let told : paper_gas c.admit.result ≡ first (search_order document01 c.args.charge c.args.sheet.now (length c.args.looks.now)) (gas_of c.args.charge) =
-    past_search c.requires.0 document01 c.args.charge (length c.args.looks.now) c.if-looks-lt-LOOK_PLACES.false c.admit.ensures in
+    past_search c.requires.0 document01 c.args.charge (length c.args.looks.now) (omega arith) c.admit.ensures in
     let given_gas : gives c.in-Burning.gas ≡ first (search_order document01 c.args.charge c.args.sheet.now (length c.args.looks.now)) (gas_of c.args.charge) =
     ap paper_gas (sym c.in-Burning.is) ∙ told in
     let h = searchable_of document01 c.args.charge c.args.sheet.now (length c.args.looks.now) given_gas in
@@ -26,7 +21,7 @@ find-requires c = let told : paper_gas c.admit.result ≡ first (search_order do
 
 pub returns-in-Burning : goal.returns-in-Burning
 returns-in-Burning c = let told : paper_gas c.admit.result ≡ first (search_order document01 c.args.charge c.args.sheet.now (length c.args.looks.now)) (gas_of c.args.charge) =
-    past_search c.requires.0 document01 c.args.charge (length c.args.looks.now) c.if-looks-lt-LOOK_PLACES.false c.admit.ensures in
+    past_search c.requires.0 document01 c.args.charge (length c.args.looks.now) (omega arith) c.admit.ensures in
     let given_gas : gives c.in-Burning.gas ≡ first (search_order document01 c.args.charge c.args.sheet.now (length c.args.looks.now)) (gas_of c.args.charge) =
     ap paper_gas (sym c.in-Burning.is) ∙ told in
     let e = given_gas in
@@ -36,7 +31,7 @@ returns-in-Burning c = let told : paper_gas c.admit.result ≡ first (search_ord
 
 pub returns-in-Refused : goal.returns-in-Refused
 returns-in-Refused c = let told : paper_gas c.admit.result ≡ first (search_order document01 c.args.charge c.args.sheet.now (length c.args.looks.now)) (gas_of c.args.charge) =
-    past_search c.requires.0 document01 c.args.charge (length c.args.looks.now) c.if-looks-lt-LOOK_PLACES.false c.admit.ensures in
+    past_search c.requires.0 document01 c.args.charge (length c.args.looks.now) (omega arith) c.admit.ensures in
     stopped_told (gas_heat document01 c.args.sheet.now (gas_of c.args.charge)) c.args.target.0 c.args.looks.now
     (search_order document01 c.args.charge c.args.sheet.now (length c.args.looks.now)) _ c.in-Refused.r
     (ap paper_gas (sym c.in-Refused.is) ∙ told)

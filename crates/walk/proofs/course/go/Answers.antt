@@ -1,7 +1,7 @@
 -- `go`: each turn is a step of `run` from where the walk stands, up to the first refused one or the last.
 use borrow.Author.Rules.{rules}
 use mathlib.Core.Path.{refl, ◌∙◌}
-use Prim.Native.Nat.{◌-◌, ◌*◌}
+use Prim.Native.Nat.{◌*◌}
 use native.Mathlib.Omega.{arith}
 use Rattle.air.specs.Limits.{look_places}
 use Rattle.walk.proofs.Sofar.{begin, turned, halted, finish}
