@@ -1,5 +1,4 @@
 -- `tell_burn`: products with refusal 0, or a refusal with 0 in every product: the two cases of `flat_burn`.
-
 use Rattle.telling.proofs.tell_burn.Goals as goal
 
 pub returns-in-Is : goal.returns-in-Is

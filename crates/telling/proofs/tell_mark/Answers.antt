@@ -1,5 +1,4 @@
 -- `tell_mark`: 1 for a number that counts, 0 for one that misses and for a refusal, which has its number: the three cases of `flat_mark`.
-
 use Rattle.telling.proofs.tell_mark.Goals as goal
 
 pub returns-in-Counts : goal.returns-in-Counts

@@ -1,5 +1,4 @@
 -- `tell_reading`: a reading with refusal 0, or a refusal with 0 for it: the two cases of `flat_reading`.
-
 use Rattle.telling.proofs.tell_reading.Goals as goal
 
 pub returns-in-Is : goal.returns-in-Is

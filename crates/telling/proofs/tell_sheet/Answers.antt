@@ -1,5 +1,4 @@
 -- `tell_sheet`: no refusal for a good sheet, else the refusal with its row: the two cases of `flat_sheet`.
-
 use Rattle.telling.proofs.tell_sheet.Goals as goal
 
 pub returns-in-Good : goal.returns-in-Good

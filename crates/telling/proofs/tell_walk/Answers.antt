@@ -1,5 +1,4 @@
 -- `tell_walk`: a walk done, stopped at a step, or refused at its start with a charge of zeros: the three cases of `flat_walk`.
-
 use Rattle.telling.proofs.tell_walk.Goals as goal
 
 pub returns-in-Done : goal.returns-in-Done

@@ -1,5 +1,4 @@
 -- `tell_written`: the bytes with refusal 0, or a refusal with 0 bytes: the two cases of `flat_written`.
-
 use Rattle.telling.proofs.tell_written.Goals as goal
 
 pub returns-in-Written : goal.returns-in-Written

@@ -1,5 +1,4 @@
 -- `reading_of`: the machine's two states as readings.
-
 use Rattle.sheet.proofs.pieces.reading_of.Goals as goal
 
 pub returns-in-Going : goal.returns-in-Going
