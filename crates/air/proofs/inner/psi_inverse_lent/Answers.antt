@@ -33,7 +33,7 @@ pub returns-then-target-of_u64 : goal.returns-then-target-of_u64
 returns-then-target-of_u64 c =
     let f : SFits w64 c.of_u64.result = search rules in
     let q = psi_end first_kelvin (omega arith) c.requires c.figure.ensures.0 c.of_u64.ensures in
-    psi_refused _ _ (Refused (Plain 8)) (after (le-ltb _ look_places c.if-looks-lt-LOOK_PLACES.false) (here (below_200 c.ranges.target f q c.if-target-of_u64.true))) refl
+    psi_refused _ _ (Refused (Plain 8)) (after (le-ltb (length c.args.looks.now) look_places (omega arith)) (here (below_200 c.ranges.target f q c.if-target-of_u64.true))) refl
 
 pub returns-then-of_u64-target : goal.returns-then-of_u64-target
 returns-then-of_u64-target c =
@@ -42,7 +42,7 @@ returns-then-of_u64-target c =
     let f2 : SFits w64 c.of_u64-2.result = search rules in
     let q2 = psi_end last_kelvin (omega arith) c.requires c.figure-2.ensures.0 c.of_u64-2.ensures in
     psi_refused _ _ (Refused (Plain 9))
-    (after (le-ltb _ look_places c.if-looks-lt-LOOK_PLACES.false)
+    (after (le-ltb (length c.args.looks.now) look_places (omega arith))
     (after (below_200 c.ranges.target f q c.if-target-of_u64.false) (here (above_2000 c.ranges.target f2 q2 c.if-of_u64-target.true))))
     refl
 
@@ -74,5 +74,5 @@ returns c =
     let b = below_200 c.ranges.target f q c.if-target-of_u64.false in
     let from_200 : psi_value coldest ≤ℤ c.args.target = omega (zed, b) in
     let cleared : Clear (psi_order (length c.args.looks.now) c.args.target) =
-    clear (le-ltb _ look_places c.if-looks-lt-LOOK_PLACES.false) (clear b (clear (above_2000 c.ranges.target f2 q2 c.if-of_u64-target.false) none)) in
+    clear (le-ltb (length c.args.looks.now) look_places (omega arith)) (clear b (clear (above_2000 c.ranges.target f2 q2 c.if-of_u64-target.false) none)) in
     psi_answered c.args.target c.args.looks.now cleared e (rw e from_200) c.psi_reached.ensures
