@@ -5,7 +5,8 @@ use Rattle.stream.specs.Writing.{Free}
 use Rattle.desk.proofs.asking.answer_lines.Given as goal
 
 abbrev pub invariant-loop-turns : goal.invariant-loop-turns
-invariant-loop-turns g l = (length l.line ≡ length l.initial.line) × (length l.out ≡ length l.initial.out) × (length l.piece ≡ length l.initial.piece) × (l.reader.end ≤ length l.piece) × Free l.output l.out
+invariant-loop-turns g l =
+    (length l.line ≡ length l.initial.line) × (length l.out ≡ length l.initial.out) × (length l.piece ≡ length l.initial.piece) × (l.reader.end ≤ length l.piece) × Free l.output l.out
 
 abbrev pub decreases-loop-turns : goal.decreases-loop-turns
 decreases-loop-turns g l = l.turns
