@@ -1,6 +1,7 @@
 -- The halving rule (document 01, "Temperature from heat") over any test of whole kelvins, and the highest number that passes a test.
 use Rattle.std.specs.Prelude.{Bool, cond, List, [], ◌∷◌, ◌++◌, ◌≡◌, ℕ, zero, suc, ◌+◌, ◌-◌, ◌/◌, ◌≤◌, leb, length, replicate}
 use Rattle.std.proofs.lemmas.List.Edits.{sets}
+use Rattle.rows.specs.Limits.{first_kelvin, last_kelvin}
 use Rattle.air.specs.Limits.{look_places}
 
 -- look at the middle, half the sum rounded down
@@ -38,6 +39,10 @@ highest_by p from (suc n) = cond (p (from + suc n)) (from + suc n) (highest_by p
 
 unfoldable pub highest : (ℕ → Bool) → ℕ → ℕ → ℕ
 highest p from to = highest_by p from (to - from)
+
+-- a test that a program makes of a whole kelvin of the table answers as p does
+pub record Tests (answers : ℕ → Bool → Type 0) (p : ℕ → Bool) : Type 0 where
+  pub as_p : (k : ℕ) (b : Bool) → first_kelvin ≤ k → k ≤ last_kelvin → answers k b → b ≡ p k
 
 -- looks in eleven places, 0 where unused
 unfoldable pub eleven : List ℕ → List ℕ

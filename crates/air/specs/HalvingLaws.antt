@@ -234,6 +234,18 @@ module _ {p : ℕ → Bool} {lo hi lo' hi' at : ℕ} {l : List ℕ} (t : Turn p 
 pub room_first : {p : ℕ → Bool} {lo hi at : ℕ} {l : List ℕ} → lo + 1 < hi → Room p lo hi at l → at < length l
 room_first {p} {lo} {hi} w r = by_bool (p (middle lo hi)) (λ e. room_here (to_upper w e) r) (λ e. room_here (to_lower w e) r)
 
+-- a look halves the width, and there is one look for each halving
+pub narrower : (lo hi at : ℕ) → lo + 1 < hi → at ≤ look_places → hi ≤ lo + 2 ^ (look_places - at)
+    → (at + 1 ≤ look_places) × (hi ≤ middle lo hi + 2 ^ (look_places - (at + 1))) × (middle lo hi ≤ lo + 2 ^ (look_places - (at + 1)))
+narrower lo hi at w l = go (look_places - at) refl
+  where
+    go : (n : ℕ) → look_places - at ≡ n → hi ≤ lo + 2 ^ n
+        → (at + 1 ≤ look_places) × (hi ≤ middle lo hi + 2 ^ (look_places - (at + 1))) × (middle lo hi ≤ lo + 2 ^ (look_places - (at + 1)))
+    go zero e h = absurd (omega arith)
+    go (suc n) e h =
+        let m : look_places - (at + 1) ≡ n = omega arith in
+        rw m (omega arith, omega (arith, pow-succ' 2 n), omega (arith, pow-succ' 2 n))
+
 -- ---- eleven places that were 0, with the looks of a search written from their start
 drop_replicate : (n m v : ℕ) → drop n (replicate m v) ≡ replicate (m - n) v
 drop_replicate zero m v = ap (λ (k : ℕ). replicate k v) {x = m} {y = m - 0} (omega arith)

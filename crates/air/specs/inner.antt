@@ -1,2 +1,3 @@
 -- What the functions of src/ say to each other: no promise of an entry cites it.
 pub mod Search
+pub mod Lent

@@ -16,20 +16,6 @@ use refusal::Refusal;
 #[derive(Clone, Copy)]
 pub struct Millikelvin(pub i64);
 
-// A number read from the table, or the refusal.
-#[derive(Clone, Copy)]
-pub enum Reading {
-    Is(u64),
-    Refused(Refusal),
-}
-
-// The temperature of a psi with the rest, or the refusal.
-#[derive(Clone, Copy)]
-pub enum PsiAnswer {
-    At(Millikelvin, u64),
-    Refused(Refusal),
-}
-
 // the range of temperatures in mK: 200,000 to 2,000,000
 pub const COLDEST: i64 = 1000 * rows::FIRST_KELVIN as i64;
 
@@ -43,17 +29,9 @@ pub const LOOK_PLACES: usize = 11;
 // 15 °C in mK
 pub const FIFTEEN_DEGREES: i64 = 288160;
 
-// temperature outside range
-pub const TEMPERATURE: u32 = 6;
-// target below the value at 200 K
-pub const BELOW: u32 = 8;
-// target above the value at 2,000 K
-pub const ABOVE: u32 = 9;
-// a lent list too short for what is to be written
-pub const LIST_SHORT: u32 = 10;
-
 // The heat of air per pound at a temperature, in 0.00001 C.H.U./lb.
-pub fn heat(t: Millikelvin) -> Reading
+// stays: this and `psi` by their names, for the C interface (`gaskeys_air_heat`, `gaskeys_air_psi`); below them is one reader.
+pub fn heat(t: Millikelvin) -> Result<u64, Refusal>
     ensures { paper_reading result ≡ air_heat_told t.0 }
 {
     let heats = rows::columns::heat_column();
@@ -61,7 +39,7 @@ pub fn heat(t: Millikelvin) -> Reading
 }
 
 // psi at a temperature, in 0.0000001.
-pub fn psi(t: Millikelvin) -> Reading
+pub fn psi(t: Millikelvin) -> Result<u64, Refusal>
     ensures { paper_reading result ≡ psi_told t.0 }
 {
     let psis = rows::columns::psi_column();
@@ -69,7 +47,7 @@ pub fn psi(t: Millikelvin) -> Reading
 }
 
 // Cp at a whole number of kelvins, in ten-thousandths, as printed.
-pub fn cp(kelvin: i64) -> Reading
+pub fn cp(kelvin: i64) -> Result<u64, Refusal>
     ensures { paper_reading result ≡ cp_told kelvin }
 {
     let printed = rows::columns::cp_column();
@@ -77,7 +55,7 @@ pub fn cp(kelvin: i64) -> Reading
 }
 
 // The greatest temperature whose psi is at most the target, with the rest. The looks go into the first eleven places of the list, 0 where unused.
-pub fn psi_inverse(target: i64, looks: &mut [u32]) -> PsiAnswer
+pub fn psi_inverse(target: i64, looks: &mut [u32]) -> Result<(Millikelvin, u64), Refusal>
     ensures { PsiInverse target looks.old result looks.new }
 {
     let psis = rows::columns::psi_column();

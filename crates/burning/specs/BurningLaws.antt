@@ -1,6 +1,6 @@
 -- A charge that is not refused: its limits, its mass and the balance of each element, over any sound weights (document 01, "Burning"). Assumes nothing.
 use Rattle.std.proofs.lemmas.Bool.{not-false}
-use Rattle.std.specs.Prelude.{◌≡◌, true, false, not, List, [], ◌∷◌, ℕ, ◌+◌, ◌*◌, ◌/◌, ◌<◌, ◌≤◌, ℤ, pos, ◌-ℤ◌, length, take, get_or}
+use Rattle.std.specs.Prelude.{◌≡◌, true, false, not, List, [], ◌∷◌, ℕ, ◌+◌, ◌*◌, ◌/◌, ◌<◌, ◌≤◌, ℤ, pos, ◌-ℤ◌, length, take, get_or, Ok}
 use Rattle.std.proofs.Math.Path.{refl, ap}
 use Rattle.std.proofs.Common.{arith, lit<}
 use Rattle.signed.specs.Zed.{up, In, in_z, in_range, is_diff, dn_none, le_z_true, apart, zed}
@@ -9,7 +9,6 @@ use Rattle.refusal.specs.Refusals.{gives, first, Clear, clear, none}
 use Rattle.burning.specs.declared.Charge.{Charge}
 use Rattle.burning.specs.declared.Gas.{Gas}
 use Rattle.burning.specs.declared.Products.{Products}
-use Rattle.burning.specs.declared.BurnAnswer.TheVariants.{Is as Burnt}
 use Rattle.burning.specs.Burning.{charge_numbers, charge_in, numbers_of_charge, charge_of}
 use Rattle.burning.specs.Burning.{Weights, document01, Sound, gas_of, beyond, Limits, h2o_weight, fuel_mass, oxygen_used, lean, Burns, products, total_mass, Balanced}
 use Rattle.burning.specs.Answers.{charge_lines, paper_burn, burn_told}
@@ -87,7 +86,7 @@ module _ (w : Weights) (g : Gas) (b : lean w g ≡ true) where
   }
 
 -- of whatever `burn` answers
-pub burn_balances : (w : Weights) → Sound w → (ch : Charge) (p : Products) → paper_burn (Burnt p) ≡ burn_told w ch → Balanced w (gas_of ch) p
+pub burn_balances : (w : Weights) → Sound w → (ch : Charge) (p : Products) → paper_burn (Ok p) ≡ burn_told w ch → Balanced w (gas_of ch) p
 burn_balances w s ch p e =
     rw (← given (charge_lines w ch) (products w (gas_of ch)) e)
     (products_balance w (gas_of ch) (burns_of w ch (clear_order (charge_lines w ch) (products w (gas_of ch)) e)).is_lean s)

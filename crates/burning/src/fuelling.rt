@@ -8,20 +8,7 @@ ghost use Rattle.burning.specs.Answers.{paper_fuelled};
 ghost use Rattle.burning.specs.inner.Counts.{wrong_count, paper_atoms};
 
 use crate::{Fuel, Gas, inner, weights};
-
-// A count of atoms, or none where atoms are taken away or leave their limit.
-#[derive(Clone, Copy)]
-pub(crate) enum Atoms {
-    Are(u64),
-    TooMany,
-}
-
-// A gas with fuel added, or none where atoms are taken away or leave their limit.
-#[derive(Clone, Copy)]
-pub enum Fuelled {
-    To(Gas),
-    Beyond,
-}
+use refusal::Refusal;
 
 // the most atoms, as a count
 const MOST_ATOMS: u64 = weights::MOST_ATOMS as u64;
@@ -37,33 +24,29 @@ pub fn fuel_in(numbers: &[i64]) -> Fuel
     }
 }
 
-// A count of atoms with more added.
-fn add_atoms(have: u64, more: i64) -> Atoms
+// A count of atoms with more added, refusal 4 tested: atoms taken away, or more than their limit.
+fn add_atoms(have: u64, more: i64) -> Result<u64, Refusal>
     requires { have ≤ document01.most_atoms }
     ensures { paper_atoms result ≡ first (4 when wrong_count have more ∷ []) (have + up more) }
 {
     if !signed::inside(more, 0, weights::MOST_ATOMS) {
-        return Atoms::TooMany;
+        return Err(Refusal::Limit);
     }
     let sum = have + signed::to_u64(more);
     if sum > MOST_ATOMS {
-        return Atoms::TooMany;
+        return Err(Refusal::Limit);
     }
-    Atoms::Are(sum)
+    Ok(sum)
 }
 
 // The gas with fuel added, refusal 4 tested.
-pub fn add_fuel(gas: Gas, fuel: Fuel) -> Fuelled
+pub fn add_fuel(gas: Gas, fuel: Fuel) -> Result<Gas, Refusal>
     requires { Limits document01 gas }
     ensures { paper_fuelled result ≡ first (4 when wrong_fuel document01 gas fuel ∷ []) (with_fuel gas fuel) }
 {
-    let Atoms::Are(carbon) = add_atoms(gas.carbon, fuel.carbon) else {
-        return Fuelled::Beyond;
-    };
-    let Atoms::Are(hydrogen) = add_atoms(gas.hydrogen, fuel.hydrogen) else {
-        return Fuelled::Beyond;
-    };
-    Fuelled::To(Gas {
+    let carbon = add_atoms(gas.carbon, fuel.carbon)?;
+    let hydrogen = add_atoms(gas.hydrogen, fuel.hydrogen)?;
+    Ok(Gas {
         air: gas.air,
         carbon,
         hydrogen,

@@ -7,13 +7,6 @@ ghost use Rattle.burning.specs.Answers.{paper_gas, charge_lines};
 use crate::{Charge, Gas, weights};
 use refusal::Refusal;
 
-// A charge that burns lean within its limits, or the refusal.
-#[derive(Clone, Copy)]
-pub enum Admitted {
-    Burning(Gas),
-    Refused(Refusal),
-}
-
 // numbers of a charge
 pub const CHARGE_NUMBERS: usize = 3;
 
@@ -40,13 +33,9 @@ pub fn numbers_of(charge: Charge) -> [i64; CHARGE_NUMBERS]
 pub(crate) fn beyond(charge: Charge) -> bool
     ensures { result ≡ Burning·beyond document01 charge }
 {
-    if !signed::inside(charge.air, 1, weights::MOST_AIR) {
-        return true;
-    }
-    if !signed::inside(charge.carbon, 0, weights::MOST_ATOMS) {
-        return true;
-    }
-    !signed::inside(charge.hydrogen, 0, weights::MOST_ATOMS)
+    !signed::inside(charge.air, 1, weights::MOST_AIR)
+        || !signed::inside(charge.carbon, 0, weights::MOST_ATOMS)
+        || !signed::inside(charge.hydrogen, 0, weights::MOST_ATOMS)
 }
 
 // A charge within its limits, unsigned.
@@ -83,17 +72,17 @@ pub fn lean(gas: Gas) -> bool
 }
 
 // The gas of a charge, refusals 4 and 5 tested.
-pub fn admit(charge: Charge) -> Admitted
+pub fn admit(charge: Charge) -> Result<Gas, Refusal>
     ensures { paper_gas result ≡ first (charge_lines document01 charge) (gas_of charge) }
 {
     if beyond(charge) {
-        return Admitted::Refused(Refusal::Plain(crate::LIMIT));
+        return Err(Refusal::Limit);
     }
     let gas = gas_of(charge);
     if !lean(gas) {
-        return Admitted::Refused(Refusal::Plain(crate::RICH));
+        return Err(Refusal::Rich);
     }
-    Admitted::Burning(gas)
+    Ok(gas)
 }
 
 // The mass of the fuel.

@@ -11,7 +11,6 @@ ghost use Rattle.std.specs.Prelude.{◌≡◌};
 ghost use Rattle.burning.specs.Burning.{document01};
 ghost use Rattle.burning.specs.Answers.{paper_burn, burn_told};
 
-use inner::Admitted;
 use refusal::Refusal;
 
 // A charge: parts of air of 100 g, moles of carbon, moles of hydrogen atoms.
@@ -30,6 +29,7 @@ pub struct Fuel {
 }
 
 // A charge whose numbers are within their limits, unsigned.
+// stays: with no ghost field of its limits, since the definitions `gas_of` and `with_fuel` make one outside them, and demand 1 speaks of those; `Limits` is a clause of what needs it.
 #[derive(Clone, Copy)]
 pub struct Gas {
     pub air: u64,
@@ -56,24 +56,10 @@ pub struct Masses {
     pub h2o: u64,
 }
 
-// The products, or the refusal.
-#[derive(Clone, Copy)]
-pub enum BurnAnswer {
-    Is(Products),
-    Refused(Refusal),
-}
-
-// A, c or h outside its limit
-pub const LIMIT: u32 = 4;
-// not lean
-pub const RICH: u32 = 5;
-
 // What a charge burns to.
-pub fn burn(charge: Charge) -> BurnAnswer
+pub fn burn(charge: Charge) -> Result<Products, Refusal>
     ensures { paper_burn result ≡ burn_told document01 charge }
 {
-    match inner::admit(charge) {
-        Admitted::Burning(gas) => BurnAnswer::Is(weights::burnt(gas)),
-        Admitted::Refused(r) => BurnAnswer::Refused(r),
-    }
+    let gas = inner::admit(charge)?;
+    Ok(weights::burnt(gas))
 }

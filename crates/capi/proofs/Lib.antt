@@ -1,2 +1,2 @@
--- What several proofs of this crate share: the structs, and the promises through them.
+-- What several proofs of this crate share: the promises of the calls that write into lent lists.
 pub mod Promised

@@ -3,6 +3,7 @@
 // (specs/Flat.antt of telling). Lent lists hold on return what the entry promises (specs/Lent.antt). The reading of a sheet in
 // pieces goes in and out as seven numbers. Two have no entry below: the built-in sheet put into a list, and the version.
 // include/gaskeys.h has the same calls for a reader of C.
+// stays: a charge and a temperature come in as numbers, and the lent lists one by one, for the C interface: they are the arguments of C's calls
 #![tactic(auto)]
 
 ghost use Rattle.std.specs.Prelude.{◌≡◌, [], ◌∷◌};
@@ -22,7 +23,6 @@ ghost use Rattle.capi.specs.Lent.{SheetIs, BuiltInIs, WrittenIs, PieceIs, closed
 use air::Millikelvin;
 use gas::Heat;
 use refusal::Refusal;
-use sheet::SheetAnswer;
 use telling::pieces::{PieceTold, ReadingState};
 use telling::{
     BurnTold, HeatTold, MarkTold, PsiTold, ReadingTold, SheetTold, StationTold, TemperatureTold,
@@ -61,16 +61,12 @@ pub extern "C" fn gaskeys_judge_sheet(list: &[u32]) -> SheetTold
 pub extern "C" fn gaskeys_built_in_sheet(list: &mut [u32]) -> SheetTold
     ensures { BuiltInIs list.old result list.new }
 {
-    if list.len() != sheet::NUMBERS {
-        return telling::tell_sheet(SheetAnswer::Refused(Refusal::Plain(sheet::LIST_LENGTH)));
-    }
+    let Some(list) = list.as_mut_array::<{ sheet::NUMBERS }>() else {
+        return telling::tell_sheet(Err(Refusal::ListLength));
+    };
     let numbers = built_in::sheet();
     sheet::inner::copy(&numbers, list);
-    SheetTold {
-        refusal: 0,
-        row: 0,
-        placed: 0,
-    }
+    telling::tell_sheet(Ok(()))
 }
 
 // Writes the text of a sheet list into a buffer, from its first place on.

@@ -1,18 +1,17 @@
--- The answer to each request line (docs/PROGRAM.md), over a sheet list and the verdict that it was given when it was read. With the verdict `Good` each request
+-- The answer to each request line (docs/PROGRAM.md), over a sheet list and the verdict that it was given when it was read. With the verdict `Ok` each request
 -- tells what the call of the layer below tells of that list, refusals 1 and 3 among them; a sheet that was refused tells its refusal to every request that needs one.
-use Rattle.std.specs.Prelude.{ℕ, cond, List, [], ◌∷◌, ◌++◌, ◌≡◌, ℤ}
+use Rattle.std.specs.Prelude.{ℕ, cond, List, [], ◌∷◌, ◌++◌, ◌≡◌, ℤ, Option, Some, None, Result, Ok, Err}
+use Rattle.refusal.specs.declared.Refusal.{Refusal}
+use Rattle.refusal.specs.Refusals.{numbered}
 use Rattle.air.specs.Limits.{look_places}
 use Rattle.rows.specs.Rows.{rows_h, rows_psi, rows_cp}
-use Rattle.text.specs.declared.Whole.{Whole}
-use Rattle.text.specs.declared.Whole.TheVariants.{Is, Not}
 use Rattle.fields.specs.Fields.{fields_of, holds_return, one_of, is_count, count_all, values_of}
 use Rattle.air.specs.Inverse.{looks}
 use Rattle.air.specs.Answers.{air_heat_told, psi_told, cp_told, psi_value, psi_inverse_told}
 use Rattle.sheet.specs.Sheet.{Accepted}
-use Rattle.sheet.specs.Answers.{paper_sheet, judge_told}
+use Rattle.sheet.specs.Answers.{SheetAnswer, paper_sheet, judge_told}
 use Rattle.sheet.specs.Pieces.{PiecesRead}
-use Rattle.sheet.specs.declared.SheetAnswer.{SheetAnswer}
-use Rattle.sheet.specs.declared.SheetAnswer.TheVariants.{Good, Refused as SheetRefused}
+use Rattle.sheet.specs.declared.accepted.AcceptedSheet.{AcceptedSheet}
 use Rattle.burning.specs.declared.Charge.{Charge}
 use Rattle.burning.specs.Burning.{document01, gas_of, charge_numbers, charge_in}
 use Rattle.gas.specs.Heat.{gas_heat}
@@ -22,9 +21,7 @@ use Rattle.marking.specs.Figures.{numbers_told}
 use Rattle.console.specs.declared.requests.Request.{Request}
 use Rattle.console.specs.declared.requests.OfAir.{OfAir}
 use Rattle.console.specs.declared.requests.OfGas.{OfGas}
-use Rattle.console.specs.declared.requests.GasAsk.{GasAsk}
-use Rattle.console.specs.declared.requests.GasAsk.TheVariants.{Of, Refused, Misfit}
-use Rattle.console.specs.Requests.{request_of, gas_ask_of, unknown_text, misfit_text, return_text}
+use Rattle.console.specs.Requests.{request_of, GasAsk, gas_ask_of, unknown_text, misfit_text, return_text}
 use Rattle.wording.specs.Texts.{refusal_text, reading_text, inverse_text, burnt_text, whole_text, station_text}
 use Rattle.console.specs.Marks.{mark_request}
 use Rattle.console.specs.Walks.{walk_request}
@@ -37,9 +34,9 @@ air_text OfAir.Cp kelvin = reading_text (cp_told kelvin)
 air_text OfAir.Inverse psi = inverse_text (psi_inverse_told look_places psi) (looks psi_value psi)
 
 -- what is asked of air takes one number
-abbrev pub on_one : (ℤ → List ℕ) → Whole → List ℕ
-on_one text (Is number) = text number
-on_one text Not = misfit_text
+abbrev pub on_one : (ℤ → List ℕ) → Option ℤ → List ℕ
+on_one text (Some number) = text number
+on_one text None = misfit_text
 
 abbrev pub air_reply : OfAir → List (List ℕ) → List ℕ
 air_reply reading fs = on_one (air_text reading) (one_of fs)
@@ -58,9 +55,9 @@ gas_text OfGas.Station s charge mk = station_text (numbers_told charge mk s)
 
 -- what is asked of a gas takes a charge's numbers, one more, and a sheet
 abbrev pub on_gas : (Charge → ℤ → List ℕ) → GasAsk → List ℕ
-on_gas text (Of charge number) = text charge number
-on_gas text (Refused r) = refusal_text r
-on_gas text Misfit = misfit_text
+on_gas text (Some (Ok (charge, number))) = text charge number
+on_gas text (Some (Err r)) = refusal_text (numbered r)
+on_gas text None = misfit_text
 
 abbrev pub gas_reply : OfGas → SheetAnswer → List ℕ → List (List ℕ) → List ℕ
 gas_reply quantity verdict s fs = on_gas (gas_text quantity s) (gas_ask_of fs verdict)
@@ -94,8 +91,8 @@ answer_of verdict s line = line_text verdict s line ++ (10 ∷ [])
 
 -- after the reader: its refusal of the text, else what the judge tells of the list
 abbrev pub JudgedAfter : SheetAnswer → SheetAnswer → List ℕ → Type 0
-JudgedAfter Good verdict s = paper_sheet verdict ≡ judge_told s
-JudgedAfter (SheetRefused r) verdict s = verdict ≡ SheetRefused r
+JudgedAfter (Ok good) verdict s = paper_sheet verdict ≡ judge_told s
+JudgedAfter (Err r) verdict s = verdict ≡ Err r
 
 -- the verdict on a sheet text, read in pieces into a list
 pub record Verdict (text before : List ℕ) (verdict : SheetAnswer) (s : List ℕ) : Type 0 where
@@ -108,6 +105,15 @@ pub data Judged (verdict : SheetAnswer) (s : List ℕ) : Type 0 where
   of_list : paper_sheet verdict ≡ judge_told s → Judged verdict s
   of_text : {text before : List ℕ} → Verdict text before verdict s → Judged verdict s
 
+-- a sheet as a program holds it, accepted or refused: its verdict, and its list, [] where it was refused. No answer over a refused sheet hangs on the list (VerdictLaws.antt).
+abbrev pub verdict_in : Result AcceptedSheet Refusal → SheetAnswer
+verdict_in (Ok sheet) = Ok tt
+verdict_in (Err r) = Err r
+
+abbrev pub list_in : Result AcceptedSheet Refusal → List ℕ
+list_in (Ok sheet) = sheet.list.now
+list_in (Err r) = []
+
 -- the columns of Table 1 that the answers read, lent by the program that built them: H, psi and Cp
 pub record Columns (air psis cps : List ℕ) : Type 0 where
   pub heats_are : air ≡ rows_h
@@ -116,6 +122,6 @@ pub record Columns (air psis cps : List ℕ) : Type 0 where
 
 -- what is asked of a sheet that was found good is asked of an accepted one
 abbrev pub Ready : GasAsk → List ℕ → Type 0
-Ready (Of charge number) s = Accepted s
-Ready (Refused r) s = Unit {0}
-Ready Misfit s = Unit {0}
+Ready (Some (Ok asked)) s = Accepted s
+Ready (Some (Err r)) s = Unit {0}
+Ready None s = Unit {0}

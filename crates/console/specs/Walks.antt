@@ -1,17 +1,13 @@
 -- Walks as the console shows them. The answer to the request `walk A c h mK n1 n2 ..` (docs/PROGRAM.md) is one line: `ok`, the number of steps, A, c, h, mK, or `stopped`,
 -- the number of steps done, the refusal's number, A, c, h, mK; then mK, rest, number of looks and the looks of each step done. The printed walk (document 01, "Examples to hold
 -- against it") is a header, a line for each step done and, where the walk was refused, `refused` and the number.
-use Rattle.std.specs.Prelude.{ℕ, suc, Bool, false, cond, List, [], ◌∷◌, ◌++◌, leb, ℤ, pos, length, drop, get_or}
+use Rattle.std.specs.Prelude.{ℕ, suc, Bool, false, cond, List, [], ◌∷◌, ◌++◌, leb, ℤ, pos, length, drop, get_or, Option, Some, None, Ok, Err}
 use Rattle.text.specs.Bytes.{bytes_of}
 use Rattle.text.specs.Decimal.{decimal, decimal_z}
 use Rattle.walk.specs.Limits.{most_steps, most_looks}
-use Rattle.fields.specs.declared.Numbers.{Numbers}
-use Rattle.fields.specs.declared.Numbers.TheVariants.{Count, Bad}
 use Rattle.fields.specs.Fields.{values_of, count_all}
-use Rattle.refusal.specs.Refusals.{Told, gives, refused, number_of}
-use Rattle.sheet.specs.Answers.{sheet_lines}
-use Rattle.sheet.specs.declared.SheetAnswer.{SheetAnswer}
-use Rattle.sheet.specs.declared.SheetAnswer.TheVariants.{Good, Refused}
+use Rattle.refusal.specs.Refusals.{Told, gives, refused, numbered, number_of}
+use Rattle.sheet.specs.Answers.{SheetAnswer, sheet_lines}
 use Rattle.burning.specs.declared.Charge.{Charge}
 use Rattle.burning.specs.Burning.{document01, charge_numbers, charge_in}
 use Rattle.walk.specs.Step.{Out}
@@ -24,8 +20,8 @@ use Rattle.console.specs.Requests.{misfit_text}
 
 -- a walk with lists for the longest, over a sheet list and the verdict that it was given when it was read
 abbrev pub walk_told : SheetAnswer → List ℕ → Charge → ℤ → List ℤ → Told Trace
-walk_told Good s ch mk numbers = walked (sheet_lines s) document01 s ch mk numbers most_steps most_steps most_looks
-walk_told (Refused r) s ch mk numbers = refused r
+walk_told (Ok good) s ch mk numbers = walked (sheet_lines s) document01 s ch mk numbers most_steps most_steps most_looks
+walk_told (Err r) s ch mk numbers = refused (numbered r)
 
 -- a step in a line: mK, rest, number of looks, the looks
 abbrev pub in_line : ℤ → ℤ → List ℕ → List ℕ
@@ -49,9 +45,9 @@ unfoldable pub walk_text : Told Trace → List ℕ
 walk_text told = told_text course_text (course told) ++ steps_text Line 1 (outs_of told)
 
 -- walk A c h mK n1 n2 ..: the first numbers are the start, a charge and mK, those after them the steps
-abbrev pub has_start : Numbers → Bool
-has_start (Count n) = leb start_numbers n
-has_start Bad = false
+abbrev pub has_start : Option ℕ → Bool
+has_start (Some n) = leb start_numbers n
+has_start None = false
 
 abbrev pub walk_of : SheetAnswer → List ℕ → List ℤ → List ℕ
 walk_of verdict s zs = walk_text (walk_told verdict s (charge_in zs) (get_or zs charge_numbers (pos 0)) (drop start_numbers zs))

@@ -1,6 +1,6 @@
 -- A walk in its text: the lists that it wrote show its steps, and so many numbers as a line has are told as those that were kept. Assumes nothing.
 use Prim.Native.Nat.{ℕ, zero, suc, ◌+◌, ◌-◌, ◌*◌, ◌/◌, ◌%◌, ◌≤◌, ◌<◌, min}
-use Rattle.std.specs.Prelude.{◌≡◌, refl, true, not, cond, ℤ, pos, length, take, drop, get_or, set, eqb}
+use Rattle.std.specs.Prelude.{◌≡◌, refl, true, not, cond, ℤ, pos, length, take, drop, get_or, set, eqb, Option, Some, None, Result, Ok, Err}
 use Rattle.std.proofs.Math.Path.{sym, ap, ap₂}
 use Rattle.std.proofs.Common.{◌∙◌, add-zero, add-one, lt-ltb, le-leb, length-append, length-take, length-drop, length-set, take_at, drop_at, get_or-set_same, get_or-set_other, lit<}
 use Rattle.std.proofs.Math.Bool.{or-true}
@@ -13,14 +13,13 @@ use Rattle.std.proofs.lemmas.List.{length-map, drop-append-le}
 use Rattle.std.proofs.lemmas.List.Edits.{sets, sets-eq}
 use Rattle.std.proofs.Math.Seq.{length-sets, get_or-drop, drop-drop}
 use Rattle.air.specs.Limits.{look_places}
-use Rattle.text.specs.Puts.{Puts}
-use Rattle.text.specs.PutsLaws.{puts_none, puts_then, puts_wider}
+use Rattle.text.specs.declared.Pen.{Pen}
+use Rattle.text.specs.Puts.{WroteAtMost}
+use Rattle.text.specs.PutsLaws.{wrote_none, wrote_then, wrote_wider}
 use Rattle.walk.specs.Limits.{step_numbers, most_steps, most_looks, most_numbers}
-use Rattle.fields.specs.declared.Numbers.{Numbers}
-use Rattle.fields.specs.declared.Numbers.TheVariants.{Count, Bad}
 use Rattle.fields.specs.Fields.{values_of, count_all, Stored, held_of}
 use Rattle.fields.specs.FieldsLaws.{count_is}
-use Rattle.refusal.specs.Refusals.{Told, gives, refuses, refused, Line as Condition, condition, told_by, first}
+use Rattle.refusal.specs.Refusals.{Told, gives, refuses, refused, numbered, Line as Condition, condition, told_by, first}
 use Rattle.refusal.specs.declared.Refusal.{Refusal}
 use Rattle.refusal.specs.RefusalsLaws.{gives_clear}
 use Rattle.air.specs.Halving.{eleven}
@@ -28,16 +27,13 @@ use Rattle.air.specs.HalvingLaws.{length_eleven}
 use Rattle.air.specs.Inverse.{looks}
 use Rattle.air.specs.InverseLaws.{looks_most}
 use Rattle.sheet.specs.Sheet.{Accepted}
-use Rattle.sheet.specs.Answers.{sheet_lines}
+use Rattle.sheet.specs.Answers.{SheetAnswer, sheet_lines}
 use Rattle.sheet.specs.AnswersLaws.{past_sheet}
-use Rattle.sheet.specs.declared.SheetAnswer.{SheetAnswer}
-use Rattle.sheet.specs.declared.SheetAnswer.TheVariants.{Good, Refused as SheetRefused}
 use Rattle.burning.specs.declared.Charge.{Charge}
 use Rattle.burning.specs.Burning.{Weights, document01, charge_in, charge_numbers}
 use Rattle.burning.specs.BurningLaws.{charge_alike}
 use Rattle.walk.specs.declared.Step.{Step}
-use Rattle.walk.specs.declared.WalkAnswer.{WalkAnswer}
-use Rattle.walk.specs.declared.WalkAnswer.TheVariants.{Refused}
+use Rattle.walk.specs.declared.Course.{Course as CourseBack}
 use Rattle.walk.specs.Lists.{Lists, lists, laid}
 use Rattle.walk.specs.Step.{State, Out}
 use Rattle.walk.specs.Walk.{Trace, End, ended, cut, run, steps_of, wrong_steps, start_lines, start_state, walked, Course, course_of, course}
@@ -75,30 +71,30 @@ module _ (layout : Layout) (n : ℕ) (t r : List ℤ) (l : List ℕ) where
       ∙ rw (get_or-drop i t 0 (pos 0), get_or-drop i r 0 (pos 0), drop-drop 1 i t, drop-drop 1 i r, drop-drop look_places (look_places * i) l, d) (simp (add-zero, add-one))
 
   -- the first i steps were put
-  pub record Putting (before : List ℕ) (at next : ℕ) (now : List ℕ) (i : ℕ) : Type 0 where
+  pub record Putting (before now : Pen) (i : ℕ) : Type 0 where
     pub text : List ℕ
     pub within : i ≤ n
-    pub put : Puts (step_room layout * i) text before at next now
+    pub put : WroteAtMost (step_room layout * i) text before now
     pub whole : text ++ left i ≡ shown layout 1 n t r l
 
-  pub none_put : (before : List ℕ) (at : ℕ) → at ≤ length before → Putting before at at before 0
-  none_put before at h = record {
+  pub none_put : (before : Pen) → before.at ≤ length before.buf.now → Putting before before 0
+  none_put before h = record {
     text = [];
     within = omega arith;
-    put = puts_wider (omega arith) (puts_none before at h);
+    put = wrote_wider (omega arith) (wrote_none before h);
     whole = ap (λ (k : ℕ). shown layout 1 k t r l) (sub-zero n);
   }
 
-  module _ {before : List ℕ} {at next : ℕ} {now : List ℕ} {i : ℕ} (p : Putting before at next now i) where
-    pub one_more : {after : ℕ} {later : List ℕ} → i < n → Puts (step_room layout) (step_at i) now next after later → Putting before at after later (i + 1)
+  module _ {before now : Pen} {i : ℕ} (p : Putting before now i) where
+    pub one_more : {later : Pen} → i < n → WroteAtMost (step_room layout) (step_at i) now later → Putting before later (i + 1)
     one_more h q = record {
       text = p.text ++ step_at i;
       within = omega arith;
-      put = puts_wider (room_more layout i) (puts_then p.put q);
+      put = wrote_wider (room_more layout i) (wrote_then p.put q);
       whole = append_assoc p.text (step_at i) (left (i + 1)) ∙ ap (λ (x : List ℕ). p.text ++ x) (sym (left_next i h)) ∙ p.whole;
     }
 
-    pub all_put : n ≤ i → Puts (step_room layout * n) (shown layout 1 n t r l) before at next now
+    pub all_put : n ≤ i → WroteAtMost (step_room layout * n) (shown layout 1 n t r l) before now
     unfolding shown
     all_put h =
         let e : n - i ≡ 0 = omega arith in
@@ -145,12 +141,12 @@ first_searched lines w s ps st = go (first lines (run w s st ps)) refl
 
 pub walk_searched : (verdict : SheetAnswer) (s : List ℕ) (ch : Charge) (mk : ℤ) (numbers : List ℤ) → Searched (outs_of (walk_told verdict s ch mk numbers))
 unfolding walked
-walk_searched Good s ch mk numbers =
+walk_searched (Ok good) s ch mk numbers =
     first_searched (sheet_lines s ++ start_lines document01 ch mk (length numbers) most_steps most_steps most_looks) document01 s (steps_of (length numbers / step_numbers) numbers) (start_state ch mk)
-walk_searched (SheetRefused r) s ch mk numbers = none
+walk_searched (Err r) s ch mk numbers = none
 
 -- the lists that a walk left hold its steps, and what they show is its text
-module _ {a : WalkAnswer} {t r t' r' : List ℤ} {l l' : List ℕ} (told : Told Trace) (k : Walks told (lists t r l) a (lists t' r' l')) where
+module _ {a : Result CourseBack Refusal} {t r t' r' : List ℤ} {l l' : List ℕ} (told : Told Trace) (k : Walks told (lists t r l) a (lists t' r' l')) where
   -- a list that is as long as it was had a place for each output
   room : (n : ℕ) (x y z : List ℤ) → length x ≡ n → y ≡ laid x z → length z ≡ length y → n ≤ length y
   room n x y z ex ey ez = omega (arith, ap length ey, length-append x (drop (length x) z), length-drop (length x) z)
@@ -176,13 +172,14 @@ module _ {a : WalkAnswer} {t r t' r' : List ℤ} {l l' : List ℕ} (told : Told 
   walk_shown_lem searched Page = ap₂ (λ (x : List ℕ) (y : Told Course). (header_text ++ x) ++ end_text y) (steps_shown searched Page) k.answer
 
 -- ---- over a sheet that was judged
-pub walks_accepted : {s : List ℕ} (ch : Charge) (mk : ℤ) (numbers : List ℤ) → Accepted s → walked [] document01 s ch mk numbers most_steps most_steps most_looks ≡ walk_told Good s ch mk numbers
+pub walks_accepted : {s : List ℕ} (ch : Charge) (mk : ℤ) (numbers : List ℤ) → Accepted s
+    → walked [] document01 s ch mk numbers most_steps most_steps most_looks ≡ walk_told (Ok tt) s ch mk numbers
 unfolding walked
 walks_accepted {s} ch mk numbers ok =
     sym (past_sheet (start_lines document01 ch mk (length numbers) most_steps most_steps most_looks) (run document01 s (start_state ch mk) (steps_of (length numbers / step_numbers) numbers)) ok)
 
-pub walks_refused : (x : Refusal) (lent : Lists) → Walks (refused x) lent (Refused x) lent
-walks_refused x lent = record { answer = refl; lent = refl }
+pub walks_refused : (x : Refusal) (lent : Lists) → Walks (refused (numbered x)) lent (Err x) lent
+walks_refused x lent = record { answer = refl; lent = refl; no_place = tt }
 
 -- ---- the numbers of a line
 module _ (d : ℤ) where
@@ -226,8 +223,8 @@ module _ (verdict : SheetAnswer) (s : List ℕ) (values before later : List ℤ)
     where
       told_alike : (v : SheetAnswer) → most_numbers < length (take (min k places - start_numbers) (drop start_numbers later)) → most_numbers < length (drop start_numbers values)
           → walk_told v s ch mk (take (min k places - start_numbers) (drop start_numbers later)) ≡ walk_told v s ch mk (drop start_numbers values)
-      told_alike Good x y = many_alike (sheet_lines s) document01 s ch mk most_steps most_steps most_looks _ _ x y
-      told_alike (SheetRefused r) x y = refl
+      told_alike (Ok good) x y = many_alike (sheet_lines s) document01 s ch mk most_steps most_steps most_looks _ _ x y
+      told_alike (Err r) x y = refl
 
       go : Dec (k ≤ places) → walk_told verdict s ch mk (take (min k places - start_numbers) (drop start_numbers later)) ≡ walk_told verdict s ch mk (drop start_numbers values)
       go (yes g) =
@@ -241,16 +238,16 @@ module _ (verdict : SheetAnswer) (s : List ℕ) (values before later : List ℤ)
           (omega (arith, length-drop start_numbers values))
 
 module _ (verdict : SheetAnswer) (s : List ℕ) (fs : List (List ℕ)) (before later : List ℤ) (long : length before ≡ held_numbers) where
-  pub walk_kept : (numbers : Numbers) (n : ℕ) → numbers ≡ count_all 0 fs → Stored fs before numbers later → n ≡ held_of numbers held_numbers → start_numbers ≤ n
+  pub walk_kept : (numbers : Option ℕ) (n : ℕ) → numbers ≡ count_all 0 fs → Stored fs before numbers later → n ≡ held_of numbers held_numbers → start_numbers ≤ n
       → walk_text (walk_told verdict s (charge_in later) (get_or later charge_numbers (pos 0)) (take (n - start_numbers) (drop start_numbers later))) ≡ walk_request verdict s fs
-  walk_kept (Count k) n e st en h =
+  walk_kept (Some k) n e st en h =
       let c : k ≡ 0 + length (values_of fs) = count_is fs 0 k (sym e) in
       let g : (i : ℕ) → i < start_numbers → get_or later i (pos 0) ≡ get_or (values_of fs) i (pos 0) =
       λ i l. ap (λ (x : List ℤ). get_or x i (pos 0)) st ∙ kept_first (pos 0) (values_of fs) before i (omega arith) (omega arith) in
       rw (← e, le-leb start_numbers k (omega arith), en, charge_alike later (values_of fs) (λ i l. g i (omega arith)), g charge_numbers (lit< tt))
       (ap walk_text (steps_alike verdict s (values_of fs) before later held_numbers long (lit< tt) _ _ k (omega arith) (omega arith) st))
-  walk_kept Bad n e st en h = absurd (omega arith)
+  walk_kept None n e st en h = absurd (omega arith)
 
-  pub walk_misfit : (numbers : Numbers) (n : ℕ) → numbers ≡ count_all 0 fs → n ≡ held_of numbers held_numbers → n < start_numbers → misfit_text ≡ walk_request verdict s fs
-  walk_misfit (Count k) n e en h = rw (← e, lt-leb start_numbers k (omega arith)) refl
-  walk_misfit Bad n e en h = rw (← e) refl
+  pub walk_misfit : (numbers : Option ℕ) (n : ℕ) → numbers ≡ count_all 0 fs → n ≡ held_of numbers held_numbers → n < start_numbers → misfit_text ≡ walk_request verdict s fs
+  walk_misfit (Some k) n e en h = rw (← e, lt-leb start_numbers k (omega arith)) refl
+  walk_misfit None n e en h = rw (← e) refl

@@ -3,10 +3,13 @@
 // printed walk, `printed_walk` of specs/Walks.antt.
 #![tactic(auto)]
 
+mod columns;
 pub mod inner;
 mod marks;
 mod replies;
 mod requests;
+mod rest;
+mod walked;
 mod walks;
 
 ghost use Rattle.text.specs.Puts.{Puts};
@@ -16,7 +19,8 @@ ghost use Rattle.console.specs.Walks.{walk_told, printed_walk};
 
 use air::Millikelvin;
 use burning::Charge;
-use sheet::SheetAnswer;
+use columns::Table;
+use text::Pen;
 
 // no answer line is longer, and no printed walk (specs/Limits.antt)
 pub const ANSWER_ROOM: usize = 114 + 184 * walk::MOST_STEPS;
@@ -25,13 +29,20 @@ pub const PAGE_ROOM: usize = 38 + 84 * walk::MOST_STEPS;
 
 // Puts the answer to a request line, its line feed with it, as far as there is room. Answers the place after it.
 pub fn answer(line: &[u8], sheet: &[u32], out: &mut [u8], at: usize) -> usize
-    ensures { Puts answer_room (answer_of SheetAnswer.Good sheet.now line.now) out.old at result out.new }
+    ensures { Puts answer_room (answer_of (Ok tt) sheet.now line.now) out.old at result out.new }
 {
-    let air = rows::columns::heat_column();
+    let heats = rows::columns::heat_column();
     let psis = rows::columns::psi_column();
     let cps = rows::columns::cp_column();
-    let verdict = sheet::inner::judge(sheet, &air);
-    inner::answer_judged(line, verdict, sheet, &air, &psis, &cps, out, at)
+    let table = Table {
+        heats: &heats,
+        psis: &psis,
+        cps: &cps,
+    };
+    let judged = sheet::inner::judge(sheet, &heats);
+    let mut pen = Pen { buf: out, at };
+    inner::answer_judged(line, judged, table, &mut pen);
+    pen.at
 }
 
 // Puts the walk of a charge from a temperature over the steps, four numbers each, as document 01 prints one, as far as there is room. Answers the place after it.
@@ -43,10 +54,11 @@ pub fn print_walk(
     out: &mut [u8],
     at: usize,
 ) -> usize
-    ensures { Puts page_room (printed_walk (walk_told SheetAnswer.Good sheet.now charge t.0 steps.now)) out.old at result out.new }
+    ensures { Puts page_room (printed_walk (walk_told (Ok tt) sheet.now charge t.0 steps.now)) out.old at result out.new }
 {
-    let air = rows::columns::heat_column();
-    let verdict = sheet::inner::judge(sheet, &air);
-    let printed = inner::print_judged(charge, t, steps, verdict, sheet, &air, out, at);
-    printed.end
+    let heats = rows::columns::heat_column();
+    let judged = sheet::inner::judge(sheet, &heats);
+    let mut pen = Pen { buf: out, at };
+    let _ = inner::print_judged(charge, t, steps, judged, &mut pen);
+    pen.at
 }

@@ -1,14 +1,16 @@
 // The requests `mark`: the typed answer read, its key and window, and the mark.
-ghost use Rattle.std.specs.Prelude.{◌≡◌, length};
-ghost use Rattle.text.specs.Puts.{Puts};
-ghost use Rattle.fields.specs.Words.{named_at, NoneBelow};
-ghost use Rattle.fields.specs.Fields.{fields_from, two_of};
+ghost use Rattle.std.specs.Prelude.{◌≡◌};
+ghost use Rattle.text.specs.Puts.{WroteAtMost};
+ghost use Rattle.fields.specs.Words.{named_at};
+ghost use Rattle.fields.specs.Fields.{two_of};
 ghost use Rattle.console.specs.Limits.{reply_room};
-ghost use Rattle.console.specs.Marks.{kinds, kind_of, in_unit, marked_text, number_text, typed_text, kind_text, mark_request};
+ghost use Rattle.console.specs.Marks.{kinds, kind_of, in_unit, marked_text, typed_text, kind_text, mark_request};
+ghost use Rattle.console.specs.inner.Left.{fields_left};
 
-use crate::replies;
+use crate::rest::Rest;
+use crate::{replies, rest};
 use marking::Typed;
-use typed::Number;
+use text::Pen;
 
 // What kind of answer is typed.
 #[derive(Clone, Copy)]
@@ -19,12 +21,11 @@ enum Kind {
     Unknown,
 }
 
-// No kind: the place is past the table.
-fn unnamed(p: usize) -> Kind
-    requires { NoneBelow (length kinds) p }
-    ensures { result ≡ named_at kinds Kind.Unknown p }
-{
-    Kind::Unknown
+// What a typed number measures.
+#[derive(Clone, Copy)]
+enum Measure {
+    Kelvins,
+    Content,
 }
 
 // The kind at a place of the table.
@@ -35,11 +36,12 @@ fn kind_at(p: usize) -> Kind
         0 => Kind::Kelvins,
         1 => Kind::Content,
         2 => Kind::Blank,
-        _ => unnamed(p),
+        _ => Kind::Unknown,
     }
 }
 
 // The kind that a word names.
+#[tactic(auto, unfolding(crate::specs::Marks::kind_of))]
 fn kind_of(word: &[u8]) -> Kind
     ensures { result ≡ kind_of word.now }
 {
@@ -47,79 +49,56 @@ fn kind_of(word: &[u8]) -> Kind
 }
 
 // A typed number in kelvins, or as a specific content.
-fn in_unit(kelvins: bool, x: f64) -> Typed
-    ensures { result ≡ in_unit kelvins x }
+fn in_unit(measure: Measure, x: f64) -> Typed
+    ensures { result ≡ in_unit measure x }
 {
-    if kelvins {
-        Typed::Kelvins(x)
-    } else {
-        Typed::Content(x)
+    match measure {
+        Measure::Kelvins => Typed::Kelvins(x),
+        Measure::Content => Typed::Content(x),
     }
 }
 
-// The mark of a typed answer, its key and window in the fields from `from` on.
-fn put_marked(answer: Typed, line: &[u8], from: usize, out: &mut [u8], at: usize) -> usize
-    ensures { Puts reply_room (marked_text answer (two_of (fields_from line.now from))) out.old at result out.new }
+// The mark of a typed answer, its key and window in the fields that are left.
+fn put_marked(answer: Typed, rest: Rest<'_>, pen: &mut Pen<'_>)
+    ensures { WroteAtMost reply_room (marked_text answer (two_of (fields_left rest.entry))) pen.old pen.new }
 {
-    match fields::read_two(line, from) {
-        fields::Two::Are(key, window) => wording::put_mark(
-            marking::mark(answer, key, window),
-            out,
-            at,
-        ),
-        fields::Two::Not => replies::put_misfit(out, at),
-    }
+    let Some((key, window)) = fields::read_two(rest.line, rest.from) else {
+        return replies::put_misfit(pen);
+    };
+    wording::put_mark(marking::mark(answer, key, window), pen);
 }
 
-// The mark of what was typed, where it is a number.
-fn put_number(
-    kelvins: bool,
-    number: Number,
-    line: &[u8],
-    from: usize,
-    out: &mut [u8],
-    at: usize,
-) -> usize
-    ensures { Puts reply_room (number_text kelvins number (fields_from line.now from)) out.old at result out.new }
+// The mark of what was typed in the first field that is left, where it is a number.
+fn put_typed(measure: Measure, rest: Rest<'_>, pen: &mut Pen<'_>)
+    ensures { WroteAtMost reply_room (typed_text measure (fields_left rest.entry)) pen.old pen.new }
 {
-    match number {
-        Number::Is(x) => put_marked(in_unit(kelvins, x), line, from, out, at),
-        Number::Not => replies::put_no_number(out, at),
-    }
-}
-
-// The mark of the number in the field at `from`.
-fn put_typed(kelvins: bool, line: &[u8], from: usize, out: &mut [u8], at: usize) -> usize
-    ensures { Puts reply_room (typed_text kelvins (fields_from line.now from)) out.old at result out.new }
-{
-    if from > line.len() {
-        return replies::put_misfit(out, at);
-    }
-    let end = fields::field_end(line, from);
-    let number = typed::read_number(&line[from..end]);
-    put_number(kelvins, number, line, end + 1, out, at)
+    let Some((typed, rest)) = rest::next_field(rest) else {
+        return replies::put_misfit(pen);
+    };
+    let Some(x) = typed::read_number(typed) else {
+        return replies::put_no_number(pen);
+    };
+    put_marked(in_unit(measure, x), rest, pen);
 }
 
 // The mark of an answer of a kind.
-fn put_kind(kind: Kind, line: &[u8], from: usize, out: &mut [u8], at: usize) -> usize
-    ensures { Puts reply_room (kind_text kind (fields_from line.now from)) out.old at result out.new }
+fn put_kind(kind: Kind, rest: Rest<'_>, pen: &mut Pen<'_>)
+    ensures { WroteAtMost reply_room (kind_text kind (fields_left rest.entry)) pen.old pen.new }
 {
     match kind {
-        Kind::Kelvins => put_typed(true, line, from, out, at),
-        Kind::Content => put_typed(false, line, from, out, at),
-        Kind::Blank => put_marked(Typed::Blank, line, from, out, at),
-        Kind::Unknown => replies::put_misfit(out, at),
+        Kind::Kelvins => put_typed(Measure::Kelvins, rest, pen),
+        Kind::Content => put_typed(Measure::Content, rest, pen),
+        Kind::Blank => put_marked(Typed::Blank, rest, pen),
+        Kind::Unknown => replies::put_misfit(pen),
     }
 }
 
 // mark kelvins x key window, mark content x key window, mark blank key window
-pub(crate) fn reply_mark(line: &[u8], from: usize, out: &mut [u8], at: usize) -> usize
-    ensures { Puts reply_room (mark_request (fields_from line.now from)) out.old at result out.new }
+pub(crate) fn reply_mark(rest: Rest<'_>, pen: &mut Pen<'_>)
+    ensures { WroteAtMost reply_room (mark_request (fields_left rest.entry)) pen.old pen.new }
 {
-    if from > line.len() {
-        return replies::put_misfit(out, at);
-    }
-    let end = fields::field_end(line, from);
-    let kind = kind_of(&line[from..end]);
-    put_kind(kind, line, end + 1, out, at)
+    let Some((kind, rest)) = rest::next_field(rest) else {
+        return replies::put_misfit(pen);
+    };
+    put_kind(kind_of(kind), rest, pen);
 }

@@ -1,13 +1,12 @@
-// The words that requests begin with, and what their numbers and the sheet's verdict come to.
-ghost use Rattle.std.specs.Prelude.{◌≡◌, length};
-ghost use Rattle.fields.specs.Words.{position_of, words_in, named_at, NoneBelow};
-ghost use Rattle.fields.specs.Fields.{fields_from};
-ghost use Rattle.console.specs.Requests.{requests, request_of, gas_ask_of};
+// The words that requests begin with, and what the numbers of a request on a gas come to.
+ghost use Rattle.std.specs.Prelude.{◌≡◌};
+ghost use Rattle.fields.specs.Words.{position_of, words_in, named_at};
+ghost use Rattle.console.specs.Requests.{requests, request_of, asked_of};
+ghost use Rattle.console.specs.inner.Left.{fields_left};
 
+use crate::rest::Rest;
 use crate::walks;
 use burning::Charge;
-use refusal::Refusal;
-use sheet::SheetAnswer;
 
 // What a line asks for, in the order of the table of words.
 #[derive(Clone, Copy)]
@@ -47,6 +46,7 @@ pub enum OfGas {
 }
 
 // The place of a word in the table of requests; past its end where it is none of them.
+// stays: no Option, since fields::position_in promises this place, on which the definitions of tables (position_of, named_at) rest.
 fn position(word: &[u8]) -> usize
     ensures { result ≡ position_of word.now (words_in requests) }
 {
@@ -67,14 +67,6 @@ fn position(word: &[u8]) -> usize
     )
 }
 
-// No request: the place is past the table.
-fn unnamed(p: usize) -> Request
-    requires { NoneBelow (length requests) p }
-    ensures { result ≡ named_at requests Request.Unknown p }
-{
-    Request::Unknown
-}
-
 // The request at a place of the table.
 fn request_at(p: usize) -> Request
     ensures { result ≡ named_at requests Request.Unknown p }
@@ -92,40 +84,28 @@ fn request_at(p: usize) -> Request
         9 => Request::AirTemperature,
         10 => Request::AirPsi,
         11 => Request::AirCp,
-        _ => unnamed(p),
+        _ => Request::Unknown,
     }
 }
 
 // The request that a word names.
+#[tactic(auto, unfolding(crate::specs::Requests::request_of))]
 pub(crate) fn request_of(word: &[u8]) -> Request
     ensures { result ≡ request_of word.now }
 {
     request_at(position(word))
 }
 
-// A charge with a number, to be asked of a sheet that was judged; the refusal that the sheet was given when it was read; or fields of another form.
-#[derive(Clone, Copy)]
-pub enum GasAsk {
-    Of(Charge, i64),
-    Refused(Refusal),
-    Misfit,
-}
-
-// What the fields from `from` on, a charge's numbers and one more, and the sheet's verdict come to.
-pub(crate) fn gas_ask_of(line: &[u8], from: usize, verdict: SheetAnswer) -> GasAsk
-    ensures { result ≡ gas_ask_of (fields_from line.now from) verdict }
+// What is asked of a gas: a charge and a number, where the fields that are left are the charge's numbers and one more.
+pub(crate) fn asked_of(rest: Rest<'_>) -> Option<(Charge, i64)>
+    ensures { result ≡ asked_of (fields_left rest.entry) }
 {
     let mut numbers = [0i64; walks::START_NUMBERS];
-    if !fields::read_exactly(line, from, &mut numbers) {
-        return GasAsk::Misfit;
+    if !fields::read_exactly(rest.line, rest.from, &mut numbers) {
+        return None;
     }
-    match verdict {
-        SheetAnswer::Good => {
-            GasAsk::Of(
-                burning::inner::charge_in(&numbers),
-                numbers[burning::inner::CHARGE_NUMBERS],
-            )
-        }
-        SheetAnswer::Refused(refusal) => GasAsk::Refused(refusal),
-    }
+    Some((
+        burning::inner::charge_in(&numbers),
+        numbers[burning::inner::CHARGE_NUMBERS],
+    ))
 }

@@ -1,16 +1,15 @@
-// Places for what is read.
+// Places for what is read and for what is printed.
 ghost use Rattle.std.specs.Prelude.{◌≡◌, length};
 
-// Places for an argument: no name of a file is longer.
-pub(crate) fn buffer() -> [u8; 4096]
-    ensures { 4096 ≡ length result }
-{
-    [0; 4096]
-}
+// of an argument: no name of a file is longer
+pub(crate) const ARGUMENT: usize = 4096;
 
-// Places for a piece of an input.
-pub(crate) fn large_buffer() -> [u8; 65536]
-    ensures { 65536 ≡ length result }
+// of a piece of an input
+pub(crate) const PIECE: usize = 65536;
+
+// Empty places.
+pub(crate) fn zeros<const N: usize>() -> [u8; N]
+    ensures { N ≡ length result }
 {
-    [0; 65536]
+    [0; N]
 }

@@ -9,16 +9,13 @@ mod lines;
 mod pages;
 mod questions;
 mod sheets;
+mod verdict;
 
-ghost use Rattle.std.specs.Prelude.{◌≡◌, length};
-ghost use Rattle.sheet_text.specs.Limits.{sheet_numbers};
-ghost use Rattle.console.specs.Answers.{Columns, Judged};
-
-use forms::arguments::{Form, Job, Named};
-use sheet::SheetAnswer;
-use sheets::Input;
+use console::inner::Table;
+use forms::arguments::{Form, Job};
 use std::io;
 use std::rt::{Env, Files};
+use verdict::Verdict;
 
 // Does what the arguments ask for. Answers are printed, and lines on standard error go to `errors`.
 pub fn run<R: Files + Env + io::Input + Print, E: Print>(rt: &R, errors: &E) {
@@ -32,23 +29,29 @@ pub fn run<R: Files + Env + io::Input + Print, E: Print>(rt: &R, errors: &E) {
     }
 }
 
-// Does a job over the sheet that is named, or over the built-in one. It is judged once, and the columns of Table 1 are built once and lent down.
+// Does a job over the sheet of the file that is named, or over the built-in one. It is judged once, and the columns of Table 1 are built once and lent down.
 fn over_sheet<R: Files + Env + io::Input + Print, E: Print>(
     rt: &R,
     errors: &E,
     job: Job,
-    named: Named,
+    named: Option<usize>,
 ) {
-    let air = rows::columns::heat_column();
+    let heats = rows::columns::heat_column();
     let psis = rows::columns::psi_column();
     let cps = rows::columns::cp_column();
+    let table = Table {
+        heats: &heats,
+        psis: &psis,
+        cps: &cps,
+    };
     let mut list = built_in::sheet();
     match named {
-        Named::Nothing => {
-            let verdict = sheet::inner::judge(&list, &air);
-            serve(rt, errors, job, verdict, &list, &air, &psis, &cps);
+        None => {
+            let sheet = sheet::inner::judge(&list, &heats);
+            let verdict = Verdict { sheet, list: &list };
+            serve(rt, errors, job, verdict, table);
         }
-        Named::Argument(i) => over_file(rt, errors, job, i, &mut list, &air, &psis, &cps),
+        Some(i) => over_file(rt, errors, job, i, &mut list, table),
     }
 }
 
@@ -58,21 +61,13 @@ fn over_file<R: Files + Env + io::Input + Print, E: Print>(
     errors: &E,
     job: Job,
     i: usize,
-    list: &mut [u32],
-    air: &[u32; rows::ROWS],
-    psis: &[u32; rows::ROWS],
-    cps: &[u32; rows::ROWS],
-)
-    requires { (length list.old ≡ sheet_numbers) × Columns air.now psis.now cps.now }
-{
-    match sheets::read_file(rt, errors, i, list) {
-        Input::Sheet(intake) => {
-            let reading = intake.reading;
-            let verdict = forms::sheets::judge(reading, list);
-            pages::say_return(errors, verdict, intake.returned);
-            serve(rt, errors, job, verdict, list, air, psis, cps);
-        }
-        Input::Unread => (),
+    list: &mut [u32; sheet::NUMBERS],
+    table: Table<'_>,
+) {
+    if let Ok(intake) = sheets::read_file(rt, errors, i, list) {
+        let sheet = forms::sheets::accept(intake.reading, list, table.heats);
+        pages::say_return(errors, sheet.map(|_| ()), intake.returned);
+        serve(rt, errors, job, Verdict { sheet, list }, table);
     }
 }
 
@@ -81,18 +76,14 @@ fn serve<R: Files + Env + io::Input + Print, E: Print>(
     rt: &R,
     errors: &E,
     job: Job,
-    verdict: SheetAnswer,
-    sheet: &[u32],
-    air: &[u32; rows::ROWS],
-    psis: &[u32; rows::ROWS],
-    cps: &[u32; rows::ROWS],
-)
-    requires { Judged verdict sheet.now × Columns air.now psis.now cps.now }
-{
+    verdict: Verdict<'_>,
+    table: Table<'_>,
+) {
+    let sheet = verdict.sheet;
     match job {
-        Job::Example => pages::print_example(rt, errors, verdict, sheet, air),
-        Job::Walk(named) => questions::print(rt, errors, named, verdict, sheet, air),
-        Job::Ask => asking::ask(rt, errors, verdict, sheet, air, psis, cps),
-        Job::Write => sheets::write(rt, errors, verdict, sheet),
+        Job::Example => pages::print_example(rt, errors, sheet),
+        Job::Walk(named) => questions::print(rt, errors, named, sheet),
+        Job::Ask => asking::ask(rt, errors, sheet, table),
+        Job::Write => sheets::write(rt, errors, sheet),
     }
 }

@@ -1,20 +1,23 @@
 // The line that is held, in the buffer that it was read into.
-ghost use Rattle.std.specs.Prelude.{◌≡◌, ◌≤◌, length, take};
+ghost use Rattle.std.specs.Prelude.{◌≡◌, length, take};
 ghost use Rattle.desk.specs.Limits.{longest_line};
+
+use crate::buffers::zeros;
 
 // the longest line that is read
 const LONGEST: usize = 65536;
 
 // Places for a line.
+// stays: a function of its own, since its clause says that LONGEST is the longest line of the limits
 pub(crate) fn places() -> [u8; LONGEST]
     ensures { longest_line ≡ length result }
 {
-    [0; LONGEST]
+    zeros()
 }
 
-// Where a line of n bytes ends: there, or where the buffer does.
-pub(crate) fn end_of(n: usize, line: &[u8]) -> usize
-    ensures { (result ≤ length line.now) × (take result line.now ≡ take n line.now) }
+// The first n bytes of a line, or all where it has fewer.
+pub(crate) fn first_bytes(n: usize, line: &[u8]) -> &[u8]
+    ensures { result.now ≡ take n line.now }
 {
-    if n < line.len() { n } else { line.len() }
+    &line[..n.min(line.len())]
 }

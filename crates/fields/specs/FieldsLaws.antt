@@ -1,14 +1,11 @@
 -- The fields of a line one by one, and their numbers. Assumes nothing.
-use Rattle.std.specs.Prelude.{ℕ, suc, ◌+◌, ◌-◌, ◌≤◌, ◌<◌, ◌≡◌, refl, Bool, true, false, cond, List, [], ◌∷◌, ◌++◌, ltb, leb, eqb, length, take, drop, get_or, set, ℤ}
+use Rattle.std.specs.Prelude.{ℕ, suc, ◌+◌, ◌-◌, ◌≤◌, ◌<◌, ◌≡◌, refl, Bool, true, false, cond, List, [], ◌∷◌, ◌++◌, ltb, leb, eqb, length, take, drop, get_or, set, ℤ, Option, Some, None}
+use Rattle.std.specs.Bool.{then_some}
 use Rattle.std.proofs.Common.{sym, ◌∙◌, ap, true≢false, append-nil, arith, add-one, eqb-true, le-leb, lt-ltb, le-ltb, eq-eqb, ne_eqb, ltb-true, ltb-false, length-drop, drop-cons, drop-drop}
 use Rattle.std.proofs.lemmas.Bool.{lt-leb}
 use Rattle.std.proofs.lemmas.List.Edits.{sets, sets-eq}
 use Rattle.text.specs.Wholes.{whole_of}
-use Rattle.text.specs.declared.Whole.{Whole}
-use Rattle.text.specs.declared.Whole.TheVariants.{Is, Not}
 use Rattle.fields.specs.Fields.{span_to, span_of, on_head, fields_of, fields_from, holds_return, value_of, values_of, count_next, count_all, leading_next, leading_of, Stored, held_of, is_count}
-use Rattle.fields.specs.declared.Numbers.{Numbers}
-use Rattle.fields.specs.declared.Numbers.TheVariants.{Count, Bad}
 
 pub span_most : (c : ℕ) (l : List ℕ) → span_to c l ≤ length l
 span_most c [] = omega arith
@@ -92,28 +89,28 @@ fields_at l p e h q =
     ∙ ap (λ (n : ℕ). take (e - p) (drop p l) ∷ fields_from l (n + 1)) (sym q))))
 
 -- ---- numbers
-pub count_next_lem : (l : List ℕ) (p e n : ℕ) (z : ℤ) → p ≤ length l → e ≡ p + span_of (drop p l) → whole_of (take (e - p) (drop p l)) ≡ Is z
+pub count_next_lem : (l : List ℕ) (p e n : ℕ) (z : ℤ) → p ≤ length l → e ≡ p + span_of (drop p l) → whole_of (take (e - p) (drop p l)) ≡ Some z
     → count_all n (fields_from l p) ≡ count_all (n + 1) (fields_from l (e + 1))
 count_next_lem l p e n z h q r = rw (fields_at l p e h q, r) refl
 
-pub count_bad : (l : List ℕ) (p e n : ℕ) → p ≤ length l → e ≡ p + span_of (drop p l) → whole_of (take (e - p) (drop p l)) ≡ Not → count_all n (fields_from l p) ≡ Bad
+pub count_bad : (l : List ℕ) (p e n : ℕ) → p ≤ length l → e ≡ p + span_of (drop p l) → whole_of (take (e - p) (drop p l)) ≡ None → count_all n (fields_from l p) ≡ None
 count_bad l p e n h q r = rw (fields_at l p e h q, r) refl
 
-pub leading_next_lem : (l : List ℕ) (p e n : ℕ) (z : ℤ) (list : List ℤ) → p ≤ length l → e ≡ p + span_of (drop p l) → whole_of (take (e - p) (drop p l)) ≡ Is z
+pub leading_next_lem : (l : List ℕ) (p e n : ℕ) (z : ℤ) (list : List ℤ) → p ≤ length l → e ≡ p + span_of (drop p l) → whole_of (take (e - p) (drop p l)) ≡ Some z
     → sets list n (leading_of (fields_from l p)) ≡ sets (set list n z) (n + 1) (leading_of (fields_from l (e + 1)))
 leading_next_lem l p e n z list h q r = rw (add-one n, fields_at l p e h q, r) refl
 
-pub leading_bad : (l : List ℕ) (p e : ℕ) → p ≤ length l → e ≡ p + span_of (drop p l) → whole_of (take (e - p) (drop p l)) ≡ Not → leading_of (fields_from l p) ≡ []
+pub leading_bad : (l : List ℕ) (p e : ℕ) → p ≤ length l → e ≡ p + span_of (drop p l) → whole_of (take (e - p) (drop p l)) ≡ None → leading_of (fields_from l p) ≡ []
 leading_bad l p e h q r = rw (fields_at l p e h q, r) refl
 
 -- where all are numbers, all lead
-pub leading_all : (fs : List (List ℕ)) (n k : ℕ) → count_all n fs ≡ Count k → leading_of fs ≡ values_of fs
+pub leading_all : (fs : List (List ℕ)) (n k : ℕ) → count_all n fs ≡ Some k → leading_of fs ≡ values_of fs
 leading_all [] n k e = refl
 leading_all (f ∷ fs) n k e = go (whole_of f) e (λ q. leading_all fs (n + 1) k q)
   where
-    go : (w : Whole) → count_next w (count_all (n + 1) fs) ≡ Count k → (count_all (n + 1) fs ≡ Count k → leading_of fs ≡ values_of fs) → leading_next w (leading_of fs) ≡ value_of w ∷ values_of fs
-    go (Is z) e i = ap (λ (zs : List ℤ). z ∷ zs) (i e)
-    go Not e i = absurd (let z : ◌≡◌ {A = ℕ} 0 1 = cc in omega arith)
+    go : (w : Option ℤ) → count_next w (count_all (n + 1) fs) ≡ Some k → (count_all (n + 1) fs ≡ Some k → leading_of fs ≡ values_of fs) → leading_next w (leading_of fs) ≡ value_of w ∷ values_of fs
+    go (Some z) e i = ap (λ (zs : List ℤ). z ∷ zs) (i e)
+    go None e i = absurd (let z : ◌≡◌ {A = ℕ} 0 1 = cc in omega arith)
 
 -- ---- a carriage return stands in a line exactly where the bytes before the first are not all
 pub return_span : (l : List ℕ) → holds_return l ≡ ltb (span_to 13 l) (length l)
@@ -125,21 +122,21 @@ return_span (b ∷ l) = go (eqb b 13) (return_span l)
     go false h = h ∙ sym (ltb_suc (span_to 13 l) (length l))
 
 -- all numbers are counted
-pub count_is : (fs : List (List ℕ)) (n k : ℕ) → count_all n fs ≡ Count k → k ≡ n + length (values_of fs)
+pub count_is : (fs : List (List ℕ)) (n k : ℕ) → count_all n fs ≡ Some k → k ≡ n + length (values_of fs)
 count_is [] n k e = let q : n ≡ k = cc in omega arith
 count_is (f ∷ fs) n k e = go (whole_of f) refl e (λ q. count_is fs (n + 1) k q)
   where
-    go : (w : Whole) → whole_of f ≡ w → count_next w (count_all (n + 1) fs) ≡ Count k → (count_all (n + 1) fs ≡ Count k → k ≡ n + 1 + length (values_of fs)) → k ≡ n + suc (length (values_of fs))
-    go (Is z) q e i = omega (arith, i e)
-    go Not q e i = absurd (let z : ◌≡◌ {A = ℕ} 0 1 = cc in omega arith)
+    go : (w : Option ℤ) → whole_of f ≡ w → count_next w (count_all (n + 1) fs) ≡ Some k → (count_all (n + 1) fs ≡ Some k → k ≡ n + 1 + length (values_of fs)) → k ≡ n + suc (length (values_of fs))
+    go (Some z) q e i = omega (arith, i e)
+    go None q e i = absurd (let z : ◌≡◌ {A = ℕ} 0 1 = cc in omega arith)
 
 -- where there are exactly k numbers, there are as many values
 pub count_exactly : (fs : List (List ℕ)) (k : ℕ) → is_count k (count_all 0 fs) ≡ true → length (values_of fs) ≡ k
 count_exactly fs k t = go (count_all 0 fs) refl t
   where
-    go : (n : Numbers) → count_all 0 fs ≡ n → is_count k n ≡ true → length (values_of fs) ≡ k
-    go (Count m) e t = omega (arith, count_is fs 0 m e, eqb-true m k t)
-    go Bad e t = absurd (true≢false (sym t))
+    go : (n : Option ℕ) → count_all 0 fs ≡ n → is_count k n ≡ true → length (values_of fs) ≡ k
+    go (Some m) e t = omega (arith, count_is fs 0 m e, eqb-true m k t)
+    go None e t = absurd (true≢false (sym t))
 
 no_more : (vs l : List ℤ) → length l ≡ length vs → sets l 0 vs ≡ vs
 no_more vs l e =
@@ -150,23 +147,30 @@ no_more vs l e =
     none (a ∷ x) h = absurd (omega arith)
 
 -- where there are exactly k, a list of k places holds them all, and nothing else
-pub all_stored : (fs : List (List ℕ)) (before later : List ℤ) (k : ℕ) (n : Numbers)
+pub all_stored : (fs : List (List ℕ)) (before later : List ℤ) (k : ℕ) (n : Option ℕ)
     → n ≡ count_all 0 fs → is_count k n ≡ true → length before ≡ k → Stored fs before n later → later ≡ values_of fs
-all_stored fs before later k (Count m) e t h s =
+all_stored fs before later k (Some m) e t h s =
     s ∙ no_more (values_of fs) before (omega (arith, count_is fs 0 m (sym e), eqb-true m k t))
-all_stored fs before later k Bad e t h s = absurd (true≢false (sym t))
+all_stored fs before later k None e t h s = absurd (true≢false (sym t))
 
-pub exactly : {A : Type 0} (F : List ℤ → A) (other : A) (fs : List (List ℕ)) (before later : List ℤ) (k : ℕ) {n : Numbers} {r : Bool}
+pub exactly : {A : Type 0} (F : List ℤ → A) (other : A) (fs : List (List ℕ)) (before later : List ℤ) (k : ℕ) {n : Option ℕ} {r : Bool}
     → n ≡ count_all 0 fs → r ≡ is_count k n → r ≡ true → length before ≡ k → Stored fs before n later
     → F later ≡ cond (is_count k (count_all 0 fs)) (F (values_of fs)) other
 exactly F other fs before later k {n} {r} e q t h s =
     rw (all_stored fs before later k n e (sym q ∙ t) h s, ← e, ← q, t) refl
 
-pub not_exactly : {A : Type 0} (a other : A) (fs : List (List ℕ)) (k : ℕ) {n : Numbers} {r : Bool}
+pub not_exactly : {A : Type 0} (a other : A) (fs : List (List ℕ)) (k : ℕ) {n : Option ℕ} {r : Bool}
     → n ≡ count_all 0 fs → r ≡ is_count k n → r ≡ false → other ≡ cond (is_count k (count_all 0 fs)) a other
 not_exactly a other fs k e q t = rw (← e, ← q, t) refl
 
 -- a list holds no more numbers than it has places
-pub held_most : (numbers : Numbers) (places : ℕ) → held_of numbers places ≤ places
-held_most (Count n) places = omega arith
-held_most Bad places = omega arith
+pub held_most : (numbers : Option ℕ) (places : ℕ) → held_of numbers places ≤ places
+held_most (Some n) places = omega arith
+held_most None places = omega arith
+
+-- what a list of k places holds after them, where there are exactly k
+pub exactly_some : {A : Type 0} (F : List ℤ → A) (fs : List (List ℕ)) (before later : List ℤ) (k : ℕ) (r : Bool)
+    → length before ≡ k → r ≡ is_count k (count_all 0 fs) → Stored fs before (count_all 0 fs) later
+    → then_some r (F later) ≡ cond (is_count k (count_all 0 fs)) (Some (F (values_of fs))) None
+exactly_some F fs before later k true h q s = exactly (λ l. Some (F l)) None fs before later k refl q refl h s
+exactly_some F fs before later k false h q s = not_exactly (Some (F (values_of fs))) None fs k refl q refl

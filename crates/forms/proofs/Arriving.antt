@@ -1,23 +1,14 @@
--- A piece of a sheet that is cut before its first carriage return, and the close. Assumes nothing.
-use mathlib.Core.Bool.{Bool, ◌&&◌}
-use mathlib.Core.List.{List, [], ◌++◌, append-nil}
-use mathlib.Core.Path.{◌≡◌, sym, ◌∙◌, ap, subst}
-use Prim.Native.Nat.{ℕ, ◌+◌, ◌-◌, ◌≤◌}
-use native.Mathlib.Omega.{arith}
-use lib.Dec.{ltb}
-use lib.ListN.{length, take, drop, length-drop, take-append-drop}
-use lib.Seq.{take_all}
+-- A piece of a sheet that is cut before its first carriage return. Assumes nothing.
+use Rattle.std.proofs.Common.{◌≡◌, sym, ◌∙◌, ap, ℕ, ◌+◌, ◌-◌, ◌≤◌, List, [], ◌++◌, append-nil, Bool, length, take, drop, length-drop, arith}
+use Rattle.std.specs.Prelude.{◌&&◌, ltb}
+use Rattle.std.proofs.lemmas.List.{take-append-drop, take_all}
 use Rattle.fields.specs.Fields.{span_to}
 use Rattle.fields.specs.FieldsLaws.{span_most}
 use Rattle.sheet_text.specs.Limits.{sheet_numbers}
-use Rattle.sheet.specs.declared.SheetAnswer.{SheetAnswer}
 use Rattle.sheet.specs.declared.pieces.SheetReading.{SheetReading}
 use Rattle.sheet.specs.declared.pieces.Taken.{Taken}
-use Rattle.sheet.specs.declared.pieces.Closed.{Closed}
-use Rattle.sheet.specs.OneOutcome.{one_close_reading}
-use Rattle.sheet.specs.Pieces.{Standing, after_piece, closed, PieceRead, ReadingClosed, none, piece}
-use Rattle.sheet.specs.PiecesLaws.{joined, closed_told_lem}
-use Rattle.console.specs.Answers.{JudgedAfter}
+use Rattle.sheet.specs.Pieces.{Standing, after_piece, PieceRead, none, piece}
+use Rattle.sheet.specs.PiecesLaws.{joined}
 use Rattle.forms.specs.Sheets.{goes_on, Takes}
 
 pub cut_inside : (xs : List ℕ) {at : ℕ} → at ≡ 0 + span_to 13 (drop 0 xs) → at ≤ length xs
@@ -40,7 +31,3 @@ module _ (s : SheetReading) (xs l : List ℕ) {m k : List ℕ} {at : ℕ} {a b :
         stands = sym (joined (piece p (piece q none)) h) ∙ ap (λ (x : List ℕ). after_piece s x l) whole_is;
         decided = ap (λ (x : Bool). x && ltb at (length xs)) (u ∙ ap goes_on first_is) ∙ ap (λ (n : ℕ). goes_on (after_piece s (take n xs) l).reading && ltb n (length xs)) z;
       }
-
--- the verdict after the close, by the answer that it gave
-pub judged : {s : SheetReading} {l : List ℕ} {r : Closed} (v : SheetAnswer) → length l ≡ sheet_numbers → ReadingClosed s l r → JudgedAfter r.answer v l → JudgedAfter (closed s).answer v l
-judged {s} {l} {r} v h p = subst (λ (x : Closed). JudgedAfter x.answer v l) (one_close_reading p (closed_told_lem s l h))

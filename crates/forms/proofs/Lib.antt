@@ -1,2 +1,3 @@
 -- What several proofs of this crate share.
 pub mod Arriving
+pub mod Notes

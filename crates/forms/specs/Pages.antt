@@ -1,12 +1,9 @@
 -- What `keys` prints whole (docs/PROGRAM.md): the built-in example with how to go on; and its lines on standard error.
-use Rattle.std.specs.Prelude.{ℕ, ◌+◌, Bool, cond, List, [], ◌∷◌, ◌++◌, eqb, pos}
+use Rattle.std.specs.Prelude.{ℕ, ◌+◌, Bool, cond, List, [], ◌∷◌, ◌++◌, eqb, pos, Ok, Err}
 use Rattle.text.specs.Bytes.{bytes_of}
 use Rattle.text.specs.Decimal.{decimal}
-use Rattle.refusal.specs.Refusals.{Told, gives, refused, number_of}
-use Rattle.refusal.specs.declared.Refusal.{Refusal}
-use Rattle.refusal.specs.declared.Refusal.TheVariants.{Plain, At}
-use Rattle.sheet.specs.declared.SheetAnswer.{SheetAnswer}
-use Rattle.sheet.specs.declared.SheetAnswer.TheVariants.{Good, Refused}
+use Rattle.refusal.specs.Refusals.{Numbered, Plain, At, numbered, Told, gives, refused, number_of}
+use Rattle.sheet.specs.Answers.{SheetAnswer}
 use Rattle.walk.specs.Walk.{Course, done, stopped}
 use Rattle.burning.specs.Burning.{charge_in}
 use Rattle.console.specs.Walks.{walk_told, printed_walk}
@@ -47,7 +44,7 @@ abbrev pub line_bad : ℕ → List ℕ
 line_bad line = ((bytes_of "line " ++ decimal line) ++ bytes_of ": expected four whole numbers parted by tabs: ") ++ expected line
 
 -- ---- whose refusal a printed walk ends in, or why no text is printed
-abbrev pub sheet_note : Refusal → List ℕ
+abbrev pub sheet_note : Numbered → List ℕ
 sheet_note (Plain number) = (bytes_of "the sheet is refused with " ++ decimal number) ++ bytes_of "\n"
 sheet_note (At number row) = ((bytes_of "the sheet is refused with " ++ decimal number) ++ bytes_of " at row ") ++ (decimal row ++ bytes_of "\n")
 
@@ -59,17 +56,20 @@ walk_note (refused r) = (bytes_of "the start is refused with " ++ decimal (numbe
 
 -- what the sheet was refused with, nothing where it is good
 abbrev pub verdict_note : SheetAnswer → List ℕ
-verdict_note Good = []
-verdict_note (Refused r) = sheet_note r
+verdict_note (Ok u) = []
+verdict_note (Err r) = sheet_note (numbered r)
 
 -- over a sheet that was refused no walk begins
 abbrev pub refusal_note : SheetAnswer → Told Course → List ℕ
-refusal_note Good told = walk_note told
-refusal_note (Refused r) told = sheet_note r
+refusal_note (Ok u) told = walk_note told
+refusal_note (Err r) told = sheet_note (numbered r)
 
 -- ---- why the form of a sheet's text is refused: a line of it may end in a carriage return
 -- said of the row for which it is refused, where the byte that decided so is one
+abbrev pub row_note : Numbered → Bool → List ℕ
+row_note (Plain number) returned = []
+row_note (At number row) returned = cond returned (row_returned row) []
+
 abbrev pub return_note : SheetAnswer → Bool → List ℕ
-return_note Good returned = []
-return_note (Refused (Plain number)) returned = []
-return_note (Refused (At number row)) returned = cond returned (row_returned row) []
+return_note (Ok u) returned = []
+return_note (Err r) returned = row_note (numbered r) returned

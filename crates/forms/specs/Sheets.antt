@@ -1,12 +1,12 @@
 -- What `keys sheet` prints (docs/PROGRAM.md): `accepted`, or the refusal of the text, and a line feed; and what `keys write` prints: the text of the sheet in
 -- use and nothing else, or the refusal of that sheet and nothing of a text.
-use Rattle.std.specs.Prelude.{ℕ, Bool, true, false, ◌&&◌, ◌≡◌, ltb, length, take, List, ◌++◌}
+use Rattle.std.specs.Prelude.{ℕ, Bool, true, false, ◌&&◌, ◌≡◌, ltb, length, take, List, ◌++◌, Ok, Err}
+use Rattle.refusal.specs.Refusals.{numbered}
 use Rattle.text.specs.Bytes.{bytes_of}
 use Rattle.text.specs.Puts.{Stands}
 use Rattle.wording.specs.Texts.{refusal_text}
 use Rattle.sheet_text.specs.Text.{sheet_text}
-use Rattle.sheet.specs.declared.SheetAnswer.{SheetAnswer}
-use Rattle.sheet.specs.declared.SheetAnswer.TheVariants.{Good, Refused}
+use Rattle.sheet.specs.Answers.{SheetAnswer}
 use Rattle.sheet.specs.declared.pieces.SheetReading.{SheetReading}
 use Rattle.sheet.specs.declared.pieces.SheetReading.TheVariants.{Going, Refused as ReadingRefused, Accepted as ReadingAccepted}
 use Rattle.sheet.specs.Pieces.{standing, after_piece, closed}
@@ -16,16 +16,16 @@ use Rattle.forms.specs.declared.sheets.Intake.{Intake}
 use Rattle.forms.specs.declared.sheets.Judgement.{Judgement}
 
 abbrev pub verdict_words : SheetAnswer → List ℕ
-verdict_words Good = bytes_of "accepted"
-verdict_words (Refused r) = refusal_text r
+verdict_words (Ok u) = bytes_of "accepted"
+verdict_words (Err r) = refusal_text (numbered r)
 
 abbrev pub verdict_line : SheetAnswer → List ℕ
 verdict_line verdict = verdict_words verdict ++ bytes_of "\n"
 
 -- the sheet written
 abbrev pub written_page : SheetAnswer → List ℕ → List ℕ
-written_page Good s = sheet_text s
-written_page (Refused r) s = verdict_line (Refused r)
+written_page (Ok u) s = sheet_text s
+written_page (Err r) s = verdict_line (Err r)
 
 -- ---- a sheet that comes in pieces
 -- the reading expects more

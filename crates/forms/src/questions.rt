@@ -1,18 +1,19 @@
 // A question (docs/PROGRAM.md): line by line as many numbers as a step has, first A, c, h, mK, then c, h, calorific value, q for each step; and the printed walk of it.
 ghost use Rattle.std.specs.Prelude.{◌+◌, ◌≤◌, min, ◌≡◌, length};
-ghost use Rattle.rows.specs.Rows.{rows_h};
 ghost use Rattle.text.specs.Puts.{Stands};
 ghost use Rattle.walk.specs.Limits.{step_numbers};
 ghost use Rattle.walk.specs.Walk.{course, paper_walk};
 ghost use Rattle.console.specs.Limits.{page_room};
-ghost use Rattle.console.specs.Answers.{Judged};
+ghost use Rattle.console.specs.Answers.{verdict_in, list_in};
 ghost use Rattle.console.specs.Walks.{printed_walk};
 ghost use Rattle.forms.specs.Limits.{kept_numbers, kept_lines};
 ghost use Rattle.forms.specs.inner.Taking.{one_more, kept_line, with_next, numbers_next, with_line, numbers_with, question_told};
 
 use air::Millikelvin;
-use console::inner::Printed;
-use sheet::SheetAnswer;
+use refusal::Refusal;
+use sheet::AcceptedSheet;
+use text::Pen;
+use walk::Course;
 
 // The start and the steps of a walk that is one step too long: where the list is full, document 01 refuses the walk with 13.
 const KEPT_LINES: u64 = walk::MOST_STEPS as u64 + 2;
@@ -20,19 +21,25 @@ const KEPT_LINES: u64 = walk::MOST_STEPS as u64 + 2;
 // How many numbers are kept of a question.
 pub const KEPT_NUMBERS: usize = walk::STEP_NUMBERS * (walk::MOST_STEPS + 2);
 
-// A question so far: how many lines were good, or the number of the first that was not as many numbers or that had a carriage return.
+// Why a text is no question: the number of its first line that is not as many numbers as a step has, or that has a carriage return.
 #[derive(Clone, Copy)]
-pub enum Question {
-    Good(u64),
-    Bad(u64),
+pub enum BadLine {
+    Numbers(u64),
     Returned(u64),
+}
+
+// A walk that was put into a buffer: the place after it, and what the walk came to.
+#[derive(Clone, Copy)]
+pub struct Printed {
+    pub end: usize,
+    pub answer: Result<Course, Refusal>,
 }
 
 // The count with one more.
 fn one_more(n: u64) -> u64
     ensures { result ≡ one_more n }
 {
-    if n < u64::MAX { n + 1 } else { n }
+    n.saturating_add(1)
 }
 
 // Keeps the numbers of line k, where the list has places for them.
@@ -42,80 +49,69 @@ fn keep_line(numbers: &mut [i64], k: u64, line: &[i64; walk::STEP_NUMBERS])
 {
     if k < KEPT_LINES {
         let at = walk::STEP_NUMBERS * (k as usize);
-        let mut i = 0;
-        while i < walk::STEP_NUMBERS {
+        for i in 0..walk::STEP_NUMBERS {
             fields::keep(numbers, at + i, line[i]);
-            i += 1;
         }
     }
 }
 
-// The question with one line more after k that were good.
-fn take_next(k: u64, line: &[u8], numbers: &mut [i64]) -> Question
+// How many lines there are with one line more after k that were good, or why it is none.
+fn take_next(k: u64, line: &[u8], numbers: &mut [i64]) -> Result<u64, BadLine>
     ensures value { result ≡ with_next k line.now }
     ensures numbers_after { numbers.new ≡ numbers_next k line.now numbers.old }
 {
     if fields::holds_return(line) {
-        return Question::Returned(one_more(k));
+        return Err(BadLine::Returned(one_more(k)));
     }
     let mut read = [0i64; walk::STEP_NUMBERS];
-    if fields::read_exactly(line, 0, &mut read) {
-        keep_line(numbers, k, &read);
-        Question::Good(one_more(k))
-    } else {
-        Question::Bad(one_more(k))
+    if !fields::read_exactly(line, 0, &mut read) {
+        return Err(BadLine::Numbers(one_more(k)));
     }
+    keep_line(numbers, k, &read);
+    Ok(one_more(k))
 }
 
-// The question with one line more, whose numbers are kept.
-pub fn take(question: Question, line: &[u8], numbers: &mut [i64]) -> Question
+// The question with one line more, whose numbers are kept: how many lines were good, or the first that was not.
+pub fn take(
+    question: Result<u64, BadLine>,
+    line: &[u8],
+    numbers: &mut [i64],
+) -> Result<u64, BadLine>
     ensures value { result ≡ with_line question line.now }
     ensures numbers_after { numbers.new ≡ numbers_with question line.now numbers.old }
 {
-    match question {
-        Question::Good(k) => take_next(k, line, numbers),
-        Question::Bad(n) => Question::Bad(n),
-        Question::Returned(n) => Question::Returned(n),
-    }
+    take_next(question?, line, numbers)
 }
 
 // How many of so many lines the list holds.
+// stays: that there is a line is a clause here and above, where a type of one number would be no plainer.
 fn kept(lines: u64) -> usize
     requires { 1 ≤ lines }
     ensures { (1 ≤ result) × (result ≡ min lines kept_lines) }
 {
-    if lines < KEPT_LINES {
-        lines as usize
-    } else {
-        KEPT_LINES as usize
-    }
+    lines.min(KEPT_LINES) as usize
 }
 
 // The printed walk of a question of so many lines: the whole page stands in the buffer. What the walk came to is answered with its end.
 pub fn put_page(
     lines: u64,
-    numbers: &[i64],
-    verdict: SheetAnswer,
-    sheet: &[u32],
-    air: &[u32; rows::ROWS],
+    numbers: &[i64; KEPT_NUMBERS],
+    sheet: Result<AcceptedSheet<'_>, Refusal>,
     out: &mut [u8],
     at: usize,
 ) -> Printed
-    requires { Judged verdict sheet.now × (length numbers.now ≡ kept_numbers) × (1 ≤ lines) × (at + page_room ≤ length out.old) × (air.now ≡ rows_h) }
-    ensures stands { Stands (printed_walk (question_told verdict sheet.now lines numbers.now)) out.old at result.end out.new }
-    ensures answer_value { paper_walk result.answer ≡ course (question_told verdict sheet.now lines numbers.now) }
+    requires { (1 ≤ lines) × (at + page_room ≤ length out.old) }
+    ensures stands { Stands (printed_walk (question_told (verdict_in sheet.entry) (list_in sheet.entry) lines numbers.now)) out.old at result.end out.new }
+    ensures answer_value { paper_walk result.answer ≡ course (question_told (verdict_in sheet.entry) (list_in sheet.entry) lines numbers.now) }
 {
     let start = burning::inner::charge_in(numbers);
     let t = Millikelvin(numbers[burning::inner::CHARGE_NUMBERS]);
     let end = walk::STEP_NUMBERS * kept(lines);
-    console::inner::print_judged(
-        start,
-        t,
-        &numbers[walk::STEP_NUMBERS..end],
-        verdict,
-        sheet,
-        air,
-        out,
-        at,
-    )
+    let steps = &numbers[walk::STEP_NUMBERS..end];
+    let mut pen = Pen { buf: out, at };
+    let answer = console::inner::print_judged(start, t, steps, sheet, &mut pen);
+    Printed {
+        end: pen.at,
+        answer,
+    }
 }

@@ -1,21 +1,24 @@
 // A sheet that comes in pieces, read and judged, the line that `keys sheet` prints, and the text that `keys write` prints.
-ghost use Rattle.std.specs.Prelude.{◌≡◌, ◌≤◌, length};
-ghost use Rattle.text.specs.Puts.{Puts, Stands};
-ghost use Rattle.sheet_text.specs.Limits.{most_text, sheet_numbers};
+ghost use Rattle.std.specs.Prelude.{◌≡◌, ◌≤◌, length, IfOk};
+ghost use Rattle.rows.specs.Rows.{rows_h};
+ghost use Rattle.text.specs.Puts.{Stands, WroteAtMost};
+ghost use Rattle.sheet_text.specs.Limits.{most_text};
 ghost use Rattle.sheet.specs.Pieces.{closed};
 ghost use Rattle.wording.specs.Limits.{refusal_room};
-ghost use Rattle.console.specs.Answers.{JudgedAfter, Judged};
+ghost use Rattle.console.specs.Answers.{JudgedAfter, verdict_in, list_in};
 ghost use Rattle.forms.specs.Limits.{report_room};
 ghost use Rattle.forms.specs.Sheets.{goes_on, Takes, verdict_words, verdict_line, written_page, Reported};
 
+use refusal::Refusal;
 use sheet::pieces::SheetReading;
-use sheet::{SheetAnswer, pieces};
+use sheet::{AcceptedSheet, pieces};
 use sheet_text::writing;
+use text::Pen;
 
 // A verdict whose line stands in a buffer up to a place.
 #[derive(Clone, Copy)]
 pub struct Judgement {
-    pub verdict: SheetAnswer,
+    pub verdict: Result<(), Refusal>,
     pub end: usize,
 }
 
@@ -30,16 +33,11 @@ pub struct Intake {
 pub fn goes_on(reading: SheetReading) -> bool
     ensures { result ≡ goes_on reading }
 {
-    match reading {
-        SheetReading::Going(_) => true,
-        SheetReading::Refused(_) => false,
-        SheetReading::Accepted => false,
-    }
+    matches!(reading, SheetReading::Going(_))
 }
 
 // Reads the next piece of a sheet. It is cut before its first carriage return, which no sheet has, so that it shows whether that byte decides.
-pub fn take_piece(reading: SheetReading, piece: &[u8], list: &mut [u32]) -> Intake
-    requires { length list.old ≡ sheet_numbers }
+pub fn take_piece(reading: SheetReading, piece: &[u8], list: &mut [u32; sheet::NUMBERS]) -> Intake
     ensures { Takes reading piece.now list.old result list.new }
 {
     let at = fields::place_of(13, piece, 0);
@@ -47,68 +45,80 @@ pub fn take_piece(reading: SheetReading, piece: &[u8], list: &mut [u32]) -> Inta
     let after = pieces::read_piece(before.reading, &piece[at..], list);
     Intake {
         reading: after.reading,
-        returned: if goes_on(before.reading) {
-            at < piece.len()
-        } else {
-            false
-        },
+        returned: goes_on(before.reading) && at < piece.len(),
     }
 }
 
-// The verdict on a sheet of which no more comes: by its form, and then by the step rule.
-pub fn judge(reading: SheetReading, list: &[u32]) -> SheetAnswer
-    requires { length list.now ≡ sheet_numbers }
+// The sheet of which no more comes, accepted by its form and then by the step rule, over the air's heats.
+pub fn accept<'a>(
+    reading: SheetReading,
+    list: &'a [u32; sheet::NUMBERS],
+    heats: &'a [u32; rows::ROWS],
+) -> Result<AcceptedSheet<'a>, Refusal>
+    requires { heats.now ≡ rows_h }
+    ensures verdict { JudgedAfter (closed reading).answer (verdict_in result) list.now }
+    ensures same { IfOk result (λ s. s.list.now ≡ list.now) }
+{
+    pieces::close_reading(reading, list).answer?;
+    sheet::inner::judge(list, heats)
+}
+
+// The verdict on a sheet of which no more comes.
+pub fn judge(reading: SheetReading, list: &[u32; sheet::NUMBERS]) -> Result<(), Refusal>
     ensures { JudgedAfter (closed reading).answer result list.now }
 {
-    let closed = pieces::close_reading(reading, list);
-    let answer = closed.answer;
-    match answer {
-        SheetAnswer::Good => sheet::judge_sheet(list),
-        SheetAnswer::Refused(refusal) => SheetAnswer::Refused(refusal),
-    }
+    let heats = rows::columns::heat_column();
+    accept(reading, list, &heats)?;
+    Ok(())
 }
 
 // `accepted`, or the refusal.
-fn put_word(verdict: SheetAnswer, out: &mut [u8]) -> usize
-    ensures { Puts refusal_room (verdict_words verdict) out.old 0 result out.new }
+fn put_word(verdict: Result<(), Refusal>, pen: &mut Pen<'_>)
+    ensures { WroteAtMost refusal_room (verdict_words verdict) pen.old pen.new }
 {
     match verdict {
-        SheetAnswer::Good => text::put_text(b"accepted", out, 0),
-        SheetAnswer::Refused(refusal) => wording::put_refusal(refusal, out, 0),
+        Ok(()) => pen.put_text(b"accepted"),
+        Err(refusal) => wording::put_refusal(refusal, pen),
     }
 }
 
 // The line of a verdict.
-fn put_verdict(verdict: SheetAnswer, out: &mut [u8]) -> usize
-    ensures { Puts report_room (verdict_line verdict) out.old 0 result out.new }
+fn put_verdict(verdict: Result<(), Refusal>, pen: &mut Pen<'_>)
+    ensures { WroteAtMost report_room (verdict_line verdict) pen.old pen.new }
 {
-    let next = put_word(verdict, out);
-    text::put_byte(10, out, next)
+    put_word(verdict, pen);
+    pen.put_byte(10);
 }
 
 // The line of the verdict on a sheet of which no more comes, with the verdict.
-pub fn report(reading: SheetReading, list: &[u32], out: &mut [u8]) -> Judgement
-    requires { (length list.now ≡ sheet_numbers) × (report_room ≤ length out.old) }
+pub fn report(reading: SheetReading, list: &[u32; sheet::NUMBERS], out: &mut [u8]) -> Judgement
+    requires { report_room ≤ length out.old }
     ensures { Reported reading list.now out.old result out.new }
 {
     let verdict = judge(reading, list);
+    let mut pen = Pen { buf: out, at: 0 };
+    put_verdict(verdict, &mut pen);
     Judgement {
         verdict,
-        end: put_verdict(verdict, out),
+        end: pen.at,
     }
 }
 
 // The text of a sheet, or the line of its refusal: the whole of it stands in the buffer.
-pub fn put_sheet(verdict: SheetAnswer, sheet: &[u32], out: &mut [u8]) -> usize
-    requires { Judged verdict sheet.now × (most_text ≤ length out.old) }
-    ensures { Stands (written_page verdict sheet.now) out.old 0 result out.new }
+pub fn put_sheet(sheet: Result<AcceptedSheet<'_>, Refusal>, out: &mut [u8]) -> usize
+    requires { most_text ≤ length out.old }
+    ensures { Stands (written_page (verdict_in sheet.entry) (list_in sheet.entry)) out.old 0 result out.new }
 {
-    match verdict {
-        SheetAnswer::Good => {
-            let bytes = writing::text_length(sheet);
-            writing::write_text(sheet, bytes, out);
+    match sheet {
+        Ok(sheet) => {
+            let bytes = writing::text_length(sheet.list);
+            writing::write_text(sheet.list, bytes, out);
             bytes
         }
-        SheetAnswer::Refused(_) => put_verdict(verdict, out),
+        Err(refusal) => {
+            let mut pen = Pen { buf: out, at: 0 };
+            put_verdict(Err(refusal), &mut pen);
+            pen.at
+        }
     }
 }

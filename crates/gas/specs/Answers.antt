@@ -1,7 +1,9 @@
 -- What the calls on a gas tell (document 01, "Temperature from heat" and "Refusal numbers"): each an order of refusals, and the values else.
-use Rattle.std.specs.Prelude.{List, [], ◌∷◌, ◌++◌, ◌≡◌, ℕ, ltb, ℤ, pos, length}
+use Rattle.std.specs.Prelude.{List, [], ◌∷◌, ◌++◌, ◌≡◌, ℕ, ltb, ℤ, pos, length, Result}
 use Rattle.signed.specs.Zed.{up, outside}
-use Rattle.refusal.specs.Refusals.{Told, gives, refused, Line, ◌when◌, first}
+use Rattle.refusal.specs.declared.Refusal.{Refusal}
+use Rattle.refusal.specs.Refusals.{Told, told_as, told_of, Line, ◌when◌, first}
+use Rattle.air.specs.declared.Millikelvin.{Millikelvin}
 use Rattle.air.specs.Limits.{look_places, coldest, hottest}
 use Rattle.air.specs.Inverse.{looks, unreached, Found, found, written}
 use Rattle.sheet.specs.Answers.{sheet_lines}
@@ -9,28 +11,24 @@ use Rattle.burning.specs.declared.Charge.{Charge}
 use Rattle.burning.specs.declared.Gas.{Gas}
 use Rattle.gas.specs.declared.Above.{Above}
 use Rattle.gas.specs.declared.Above.TheVariants.{Zero, Fifteen}
-use Rattle.gas.specs.declared.HeatAnswer.{HeatAnswer}
-use Rattle.gas.specs.declared.HeatAnswer.TheVariants.{Is as HeatIs, Refused as HeatRefused}
-use Rattle.gas.specs.declared.SpecificAnswer.{SpecificAnswer}
-use Rattle.gas.specs.declared.SpecificAnswer.TheVariants.{Is as SpecificIs, Refused as SpecificRefused}
-use Rattle.gas.specs.declared.TemperatureAnswer.{TemperatureAnswer}
-use Rattle.gas.specs.declared.TemperatureAnswer.TheVariants.{At, Refused as TemperatureRefused}
+use Rattle.gas.specs.declared.Heat.{Heat}
 use Rattle.burning.specs.Burning.{Weights, gas_of}
 use Rattle.burning.specs.Answers.{charge_lines}
 use Rattle.gas.specs.Heat.{gas_heat, content_above15, specific_content}
 
 -- ---- an answer as the paper has it: its values, or the refusal
-abbrev pub paper_heat : HeatAnswer → Told ℤ
-paper_heat (HeatIs h) = gives h.0
-paper_heat (HeatRefused r) = refused r
+abbrev pub paper_heat : Result Heat Refusal → Told ℤ
+paper_heat = told_as (λ h. h.0)
 
-abbrev pub paper_specific : SpecificAnswer → Told ℤ
-paper_specific (SpecificIs n) = gives n
-paper_specific (SpecificRefused r) = refused r
+abbrev pub paper_specific : Result ℤ Refusal → Told ℤ
+paper_specific = told_of
 
-abbrev pub paper_temperature : TemperatureAnswer → Told Found
-paper_temperature (At t left) = gives (record { mk = t.0; left = left.0 })
-paper_temperature (TemperatureRefused r) = refused r
+-- the temperature of a heat with the rest
+abbrev pub found_of : Millikelvin × Heat → Found
+found_of p = record { mk = p.0.0; left = p.1.0 }
+
+abbrev pub paper_temperature : Result (Millikelvin × Heat) Refusal → Told Found
+paper_temperature = told_as found_of
 
 -- ---- the orders
 -- refusal 6: temperature outside range
@@ -72,10 +70,10 @@ abbrev pub temperature_told : Weights → Charge → ℤ → List ℕ → ℕ �
 temperature_told w ch target s places = inverse_told (search_order w ch s places) (gas_heat w s (gas_of ch)) target
 
 -- what such a call tells, and the lent list of looks after it
-pub record Inverted (lines : List Line) (v : ℕ → ℤ) (target : ℤ) (before : List ℕ) (r : TemperatureAnswer) (after : List ℕ) : Type 0 where
+pub record Inverted (lines : List Line) (v : ℕ → ℤ) (target : ℤ) (before : List ℕ) (r : Result (Millikelvin × Heat) Refusal) (after : List ℕ) : Type 0 where
   pub told : paper_temperature r ≡ inverse_told lines v target
   pub list : after ≡ written (inverse_told lines v target) (looks v target) before
 
 -- the whole of the temperature of a heat: it tells `temperature_told`
-abbrev pub Temperature : Weights → Charge → ℤ → List ℕ → List ℕ → TemperatureAnswer → List ℕ → Type 0
+abbrev pub Temperature : Weights → Charge → ℤ → List ℕ → List ℕ → Result (Millikelvin × Heat) Refusal → List ℕ → Type 0
 Temperature w ch target s before = Inverted (search_order w ch s (length before)) (gas_heat w s (gas_of ch)) target before

@@ -1,12 +1,12 @@
 -- What an order of refusals that is clear says of the inputs, and the temperature of a heat past its lines. Assumes nothing.
 use Rattle.std.proofs.lemmas.Bool.{not-false}
 use Rattle.std.proofs.Common.{ltb-false, lt-ltb, le-ltb, sym, ap, ◌∙◌}
-use Rattle.std.specs.Prelude.{◌≡◌, refl, true, List, [], ◌∷◌, ◌++◌, ℕ, ◌≤◌, ◌<◌, ltb, ℤ, pos}
+use Rattle.std.specs.Prelude.{◌≡◌, refl, true, List, [], ◌∷◌, ◌++◌, ℕ, ◌≤◌, ◌<◌, ltb, ℤ, pos, Result, Ok, Err}
 use Rattle.signed.specs.Zed.{in_z}
 use Rattle.refusal.specs.declared.Refusal.{Refusal}
-use Rattle.refusal.specs.declared.Refusal.TheVariants.{Plain}
-use Rattle.refusal.specs.Refusals.{Told, gives, refused, Line, ◌when◌, told_by, first, First, Clear, none, clear}
+use Rattle.refusal.specs.Refusals.{Plain, numbered, Told, gives, refused, Line, ◌when◌, told_by, first, First, Clear, none, clear}
 use Rattle.refusal.specs.RefusalsLaws.{refusal_given, values_given}
+use Rattle.air.specs.declared.Millikelvin.{Millikelvin}
 use Rattle.air.specs.Limits.{look_places, coldest, hottest}
 use Rattle.air.specs.Inverse.{unreached, found}
 use Rattle.sheet.specs.Sheet.{Accepted}
@@ -14,12 +14,11 @@ use Rattle.sheet.specs.Answers.{sheet_lines}
 use Rattle.sheet.specs.AnswersLaws.{accepted_of_told, past_sheet}
 use Rattle.burning.specs.declared.Charge.{Charge}
 use Rattle.burning.specs.declared.Gas.{Gas}
-use Rattle.gas.specs.declared.TemperatureAnswer.{TemperatureAnswer}
-use Rattle.gas.specs.declared.TemperatureAnswer.TheVariants.{Refused}
+use Rattle.gas.specs.declared.Heat.{Heat}
 use Rattle.burning.specs.Burning.{Weights, gas_of, Burns}
 use Rattle.burning.specs.BurningLaws.{burns_of}
 use Rattle.burning.specs.Answers.{charge_lines}
-use Rattle.gas.specs.Answers.{paper_temperature, temperature_lines, heat_order, search_order, Inverted}
+use Rattle.gas.specs.Answers.{paper_temperature, found_of, temperature_lines, heat_order, search_order, Inverted}
 use Rattle.refusal.specs.OrdersLaws.{stopped_first, passed, clear_order, clear_left, clear_right, given}
 use Rattle.gas.specs.inner.Search.{Searched}
 
@@ -78,25 +77,25 @@ module _ {s : List ℕ} (accepted : Accepted s) (w : Weights) (ch : Charge) wher
 -- ---- the temperature of a heat
 module _ (v : ℕ → ℤ) (target : ℤ) (before : List ℕ) where
   -- 8 or 9: nothing is written
-  pub unreached_told : (r : TemperatureAnswer) {l : Line} → First (unreached v target) l → paper_temperature r ≡ told_by l → Inverted [] v target before r before
+  pub unreached_told : (r : Result (Millikelvin × Heat) Refusal) {l : Line} → First (unreached v target) l → paper_temperature r ≡ told_by l → Inverted [] v target before r before
   unreached_told r f e =
       let g = refusal_given (found v target) f in
       record { told = e ∙ sym g; list = rw g refl }
 
   -- a target that is reached
-  pub reached_told : {r : TemperatureAnswer} {after : List ℕ} → Clear (unreached v target) → Searched v target before r after → Inverted [] v target before r after
+  pub reached_told : {r : Millikelvin × Heat} {after : List ℕ} → Clear (unreached v target) → Searched v target before r after → Inverted [] v target before (Ok r) after
   reached_told c h =
       let g = values_given (found v target) c in
-      record { told = ap paper_temperature h.answer ∙ sym g; list = rw g h.list }
+      record { told = ap (λ (p : Millikelvin × Heat). gives (found_of p)) h.answer ∙ sym g; list = rw g h.list }
 
   module _ {A : Type 0} (lines : List Line) (a : A) where
     -- a refusal of the lines before: nothing is written
-    pub stopped_told : (r : Refusal) → refused r ≡ first lines a → Inverted lines v target before (Refused r) before
+    pub stopped_told : (r : Refusal) → refused (numbered r) ≡ first lines a → Inverted lines v target before (Err r) before
     stopped_told r e = record {
-      told = stopped_first lines (unreached v target) a (found v target) r e;
-      list = rw (← stopped_first lines (unreached v target) a (found v target) r e) refl;
+      told = stopped_first lines (unreached v target) a (found v target) (numbered r) e;
+      list = rw (← stopped_first lines (unreached v target) a (found v target) (numbered r) e) refl;
     }
 
     -- past those lines
-    pub passed_told : {x : A} {r : TemperatureAnswer} {after : List ℕ} → gives x ≡ first lines a → Inverted [] v target before r after → Inverted lines v target before r after
+    pub passed_told : {x : A} {r : Result (Millikelvin × Heat) Refusal} {after : List ℕ} → gives x ≡ first lines a → Inverted [] v target before r after → Inverted lines v target before r after
     passed_told e h = let p = passed lines (unreached v target) a (found v target) e in record { told = h.told ∙ sym p; list = rw p h.list }

@@ -1,4 +1,4 @@
-// The heat of masses that were weighed, over an accepted sheet with the air column lent.
+// The heat of masses that were weighed, over an accepted sheet.
 ghost use Rattle.std.specs.Prelude.{◌≡◌, true, ◌*◌, ◌≤◌, ◌<◌, pos, ◌-ℤ◌};
 ghost use Rattle.std.specs.Int.{w64};
 ghost use Rattle.std.proofs.Common.{SFits};
@@ -6,13 +6,15 @@ ghost use Rattle.signed.specs.Zed.{up, in_z};
 ghost use Rattle.rows.specs.Limits.{first_kelvin, last_kelvin};
 ghost use Rattle.air.specs.Limits.{coldest, hottest};
 ghost use Rattle.gas.specs.Heat.{heat_sum, heat_of};
-ghost use Rattle.gas.specs.inner.Sizes.{Sized, PerPound, Ready, Rises, along as Sizes·along};
+ghost use Rattle.gas.specs.inner.Sizes.{Sized, PerPound, Rises, along as Sizes·along};
 
 use crate::Heat;
 use air::Millikelvin;
 use burning::Masses;
+use sheet::AcceptedSheet;
 
 // The heat of the masses, each at its own heat per pound.
+// stays: `Sized` is a clause here and above, and no ghost field of Masses, since the definition `masses_of` makes one of any gas.
 fn sum(gas: Masses, air: u64, o2: u64, co2: u64, h2o: u64) -> Heat
     requires { Sized gas × PerPound air o2 co2 h2o }
     ensures { result.0 ≡ heat_sum gas air o2 co2 h2o }
@@ -22,16 +24,16 @@ fn sum(gas: Masses, air: u64, o2: u64, co2: u64, h2o: u64) -> Heat
 }
 
 // The heat at a whole kelvin.
-pub(crate) fn at_kelvin(gas: Masses, kelvin: u64, sheet: &[u32], air: &[u32; rows::ROWS]) -> Heat
-    requires { Ready gas sheet.now air.now × (first_kelvin ≤ kelvin) × (kelvin ≤ last_kelvin) }
-    ensures { result.0 ≡ heat_of gas sheet.now (1000 * kelvin) }
+pub(crate) fn at_kelvin(gas: Masses, kelvin: u64, sheet: AcceptedSheet<'_>) -> Heat
+    requires { Sized gas × (first_kelvin ≤ kelvin) × (kelvin ≤ last_kelvin) }
+    ensures { result.0 ≡ heat_of gas sheet.entry.list.now (1000 * kelvin) }
 {
     sum(
         gas,
-        1000 * rows::figure(air, kelvin),
-        1000 * sheet::inner::o2_at(sheet, kelvin),
-        1000 * sheet::inner::co2_at(sheet, kelvin),
-        1000 * sheet::inner::h2o_at(sheet, kelvin),
+        1000 * rows::figure(sheet.heats, kelvin),
+        1000 * sheet::inner::o2_at(sheet.list, kelvin),
+        1000 * sheet::inner::co2_at(sheet.list, kelvin),
+        1000 * sheet::inner::h2o_at(sheet.list, kelvin),
     )
 }
 
@@ -45,23 +47,18 @@ fn along(here: Heat, next: Heat, f: u64) -> Heat
 
 // The heat at a temperature; at 2,000,000 mK no row is read but the last.
 #[tactic(auto, using(crate::proofs::LastRow::last_heat))]
-pub(crate) fn at_temperature(
-    gas: Masses,
-    t: Millikelvin,
-    sheet: &[u32],
-    air: &[u32; rows::ROWS],
-) -> Heat
-    requires { Ready gas sheet.now air.now × (in_z (pos coldest) (pos hottest) t.0 ≡ true) }
-    ensures { result.0 ≡ heat_of gas sheet.now (up t.0) }
+pub(crate) fn at_temperature(gas: Masses, t: Millikelvin, sheet: AcceptedSheet<'_>) -> Heat
+    requires { Sized gas × (in_z (pos coldest) (pos hottest) t.0 ≡ true) }
+    ensures { result.0 ≡ heat_of gas sheet.entry.list.now (up t.0) }
 {
     let mk = signed::to_u64(t.0);
     if mk == air::inner::LAST_MK {
-        return at_kelvin(gas, rows::LAST_KELVIN, sheet, air);
+        return at_kelvin(gas, rows::LAST_KELVIN, sheet);
     }
     let k = mk / 1000;
     along(
-        at_kelvin(gas, k, sheet, air),
-        at_kelvin(gas, k + 1, sheet, air),
+        at_kelvin(gas, k, sheet),
+        at_kelvin(gas, k + 1, sheet),
         mk % 1000,
     )
 }

@@ -3,6 +3,7 @@
 // first refusal of its order whose condition holds, else the paper's formula in whole numbers (specs/Heat.antt).
 #![tactic(auto)]
 
+mod admission;
 mod heats;
 pub mod inner;
 mod search;
@@ -11,10 +12,10 @@ ghost use Rattle.std.specs.Prelude.{◌≡◌};
 ghost use Rattle.burning.specs.Burning.{document01};
 ghost use Rattle.gas.specs.Answers.{paper_heat, paper_specific, heat_told, content_told, specific_told, Temperature};
 
+pub use admission::Admitted;
 use air::Millikelvin;
 use burning::Charge;
 use refusal::Refusal;
-use sheet::SheetAnswer;
 
 // A gas heat, in mg times 0.00001 C.H.U./lb.
 #[derive(Clone, Copy)]
@@ -27,58 +28,32 @@ pub enum Above {
     Fifteen,
 }
 
-// A gas heat or a content, or the refusal.
-#[derive(Clone, Copy)]
-pub enum HeatAnswer {
-    Is(Heat),
-    Refused(Refusal),
-}
-
-// A specific content in 0.00001 C.H.U./lb, or the refusal.
-#[derive(Clone, Copy)]
-pub enum SpecificAnswer {
-    Is(i64),
-    Refused(Refusal),
-}
-
-// The temperature of a heat with the rest, or the refusal.
-#[derive(Clone, Copy)]
-pub enum TemperatureAnswer {
-    At(Millikelvin, Heat),
-    Refused(Refusal),
-}
-
 // The gas heat of a charge at a temperature.
-pub fn gas_heat(charge: Charge, t: Millikelvin, sheet: &[u32]) -> HeatAnswer
+// stays: this and `content` by their names, for the C interface (`gaskeys_gas_heat`, `gaskeys_content`); below them is one function.
+pub fn gas_heat(charge: Charge, t: Millikelvin, sheet: &[u32]) -> Result<Heat, Refusal>
     ensures { paper_heat result ≡ heat_told document01 charge t.0 sheet.now }
 {
-    let air = rows::columns::heat_column();
-    match sheet::inner::judge(sheet, &air) {
-        SheetAnswer::Good => inner::heat_judged(Above::Zero, charge, t, sheet, &air),
-        SheetAnswer::Refused(r) => HeatAnswer::Refused(r),
-    }
+    let heats = rows::columns::heat_column();
+    let accepted = sheet::inner::judge(sheet, &heats)?;
+    inner::heat_judged(Above::Zero, charge, t, accepted)
 }
 
 // The content of a charge above 15 °C at a temperature.
-pub fn content(charge: Charge, t: Millikelvin, sheet: &[u32]) -> HeatAnswer
+pub fn content(charge: Charge, t: Millikelvin, sheet: &[u32]) -> Result<Heat, Refusal>
     ensures { paper_heat result ≡ content_told document01 charge t.0 sheet.now }
 {
-    let air = rows::columns::heat_column();
-    match sheet::inner::judge(sheet, &air) {
-        SheetAnswer::Good => inner::heat_judged(Above::Fifteen, charge, t, sheet, &air),
-        SheetAnswer::Refused(r) => HeatAnswer::Refused(r),
-    }
+    let heats = rows::columns::heat_column();
+    let accepted = sheet::inner::judge(sheet, &heats)?;
+    inner::heat_judged(Above::Fifteen, charge, t, accepted)
 }
 
-// The specific content of a charge at a temperature, to the nearest whole number, a tie to the even one.
-pub fn specific_content(charge: Charge, t: Millikelvin, sheet: &[u32]) -> SpecificAnswer
+// The specific content of a charge at a temperature, in 0.00001 C.H.U./lb to the nearest whole number, a tie to the even one.
+pub fn specific_content(charge: Charge, t: Millikelvin, sheet: &[u32]) -> Result<i64, Refusal>
     ensures { paper_specific result ≡ specific_told document01 charge t.0 sheet.now }
 {
-    let air = rows::columns::heat_column();
-    match sheet::inner::judge(sheet, &air) {
-        SheetAnswer::Good => inner::specific_judged(charge, t, sheet, &air),
-        SheetAnswer::Refused(r) => SpecificAnswer::Refused(r),
-    }
+    let heats = rows::columns::heat_column();
+    let accepted = sheet::inner::judge(sheet, &heats)?;
+    inner::specific_judged(charge, t, accepted)
 }
 
 // The greatest temperature whose gas heat is at most the target, with the rest. The looks go into the first eleven places of the list, 0 where unused.
@@ -87,12 +62,10 @@ pub fn temperature(
     target: Heat,
     sheet: &[u32],
     looks: &mut [u32],
-) -> TemperatureAnswer
+) -> Result<(Millikelvin, Heat), Refusal>
     ensures { Temperature document01 charge target.0 sheet.now looks.old result looks.new }
 {
-    let air = rows::columns::heat_column();
-    match sheet::inner::judge(sheet, &air) {
-        SheetAnswer::Good => inner::temperature_judged(charge, target, looks, sheet, &air),
-        SheetAnswer::Refused(r) => TemperatureAnswer::Refused(r),
-    }
+    let heats = rows::columns::heat_column();
+    let accepted = sheet::inner::judge(sheet, &heats)?;
+    inner::temperature_judged(charge, target, looks, accepted)
 }

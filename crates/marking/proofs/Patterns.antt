@@ -11,6 +11,7 @@ use lib.Ieee.Scale.{finite}
 use lib.Ieee.Fits.{eq→eqb}
 use lib.Ieee.Bits.{of_bits-to_bits, to_bits-lt, cond_no}
 use lib.Ieee.Exact.{HasValue, odd_sign}
+use Rattle.std.specs.Float.{float_is_finite}
 use Rattle.marking.specs.Exact.{FieldsOf, sized}
 use Rattle.marking.proofs.Spans.{same_test}
 
@@ -58,11 +59,6 @@ fields_value s (suc e) f h =
     less_one : (e : ℕ) → suc e - 1 ≡ e
     less_one e = omega arith
 
-pub value_finite : (x : Float) (s : Bool) (a c : ℕ) → HasValue x s a c → finite x ≡ true
-value_finite nan s a c v = absurd v
-value_finite (inf t) s a c v = absurd v
-value_finite (fin t m e) s a c v = refl
-
 -- 2047: none
 pub top_none : (s : Bool) (f : ℕ) → finite (of_fields binary64 s 2047 f) ≡ false
 unfolding of_fields
@@ -71,3 +67,10 @@ top_none s f = go (eqb f 0)
     go : (b : Bool) → finite (cond b (inf s) nan) ≡ false
     go true = refl
     go false = refl
+
+-- std's test of a finite number
+pub finite_same : (x : Float) → float_is_finite x ≡ finite x
+unfolding float_is_finite
+finite_same nan = refl
+finite_same (inf s) = refl
+finite_same (fin s m e) = refl

@@ -1,20 +1,18 @@
 -- The exact size of an answer in whole numbers: what the leaves of marking promise one another. Definitions only.
-use Rattle.std.specs.Prelude.{◌≡◌, Bool, true, false, ℕ, zero, suc, ◌+◌, ◌-◌, ◌*◌, ◌/◌, ◌^◌, ◌<◌, min, max, ℤ, pos, neg_ℤ, ◌*ℤ◌, Float}
+use Rattle.std.specs.Prelude.{◌≡◌, Bool, true, false, ℕ, zero, suc, ◌+◌, ◌-◌, ◌*◌, ◌/◌, ◌^◌, ◌<◌, min, max, ℤ, pos, neg_ℤ, ◌*ℤ◌, Float, Option, Some, None}
 use Rattle.std.specs.Float.{binary64}
 use Rattle.std.specs.Float.Ieee.{of_fields}
 use Rattle.signed.specs.Zed.{in_z}
 use Rattle.marking.specs.declared.Typed.{Typed}
 use Rattle.marking.specs.declared.Typed.TheVariants.{Kelvins, Content, Blank}
-use Rattle.marking.specs.declared.Scaled.{Scaled}
-use Rattle.marking.specs.declared.Scaled.TheVariants.{Number, Nothing}
 use Rattle.marking.specs.declared.exact.Fields.{Fields}
 use Rattle.marking.specs.declared.exact.Cut.{Cut}
 
 -- a typed answer's number with the scale of its kind
-abbrev pub scaled_of : Typed → Scaled
-scaled_of (Kelvins x) = Number 1000 x
-scaled_of (Content x) = Number 100000 x
-scaled_of Blank = Nothing
+abbrev pub scaled_of : Typed → Option (ℕ × Float)
+scaled_of (Kelvins x) = Some (1000, x)
+scaled_of (Content x) = Some (100000, x)
+scaled_of Blank = None
 
 -- the sign, exponent and fraction fields of x
 pub record FieldsOf (x : Float) (f : Fields) : Type 0 where

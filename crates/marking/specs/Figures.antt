@@ -1,22 +1,19 @@
 -- Station figures (document 01, "Figures for the pages and typed answers"): whole numbers as binary64 floats. Definitions only.
 -- The three figures are mK, specific content in 0.00001 C.H.U./lb, and total mass in mg.
-use Rattle.std.specs.Prelude.{Bool, true, false, List, ℕ, ℤ, pos, negsuc, nat_abs, Float}
+use Rattle.std.specs.Prelude.{Bool, true, false, List, ℕ, ℤ, pos, negsuc, nat_abs, Float, Result}
 use Rattle.std.specs.Float.{binary64}
 use Rattle.std.specs.Float.Ieee.{of_int, sub}
 use Rattle.std.specs.Float.Ieee.Exact.{HasValue}
 use Rattle.signed.specs.Zed.{up}
-use Rattle.refusal.specs.Refusals.{Told, gives, refused, first}
+use Rattle.refusal.specs.declared.Refusal.{Refusal}
+use Rattle.refusal.specs.Refusals.{Told, told_of, first}
 use Rattle.burning.specs.declared.Charge.{Charge}
 use Rattle.burning.specs.declared.Gas.{Gas}
 use Rattle.burning.specs.Burning.{document01, gas_of, total_mass}
 use Rattle.gas.specs.Heat.{specific_content}
 use Rattle.gas.specs.Answers.{heat_order}
 use Rattle.marking.specs.declared.StationFigure.{StationFigure}
-use Rattle.marking.specs.declared.StationAnswer.{StationAnswer}
-use Rattle.marking.specs.declared.StationAnswer.TheVariants.{Is, Refused}
 use Rattle.marking.specs.declared.inner.StationNumbers.{StationNumbers}
-use Rattle.marking.specs.declared.inner.NumbersAnswer.{NumbersAnswer}
-use Rattle.marking.specs.declared.inner.NumbersAnswer.TheVariants.{Are, Refused as NoNumbers}
 
 -- a whole number converted; "with no loss" is the law `figure_exact`
 abbrev pub figure : ℤ → Float
@@ -69,10 +66,8 @@ abbrev pub station_told : Charge → ℤ → List ℕ → Told StationFigure
 station_told ch mk s = first (heat_order document01 ch mk s) (figures_of mk (station_specific ch mk s) (station_mass ch))
 
 -- each case of a station's answer: the figures, or the refusal's number
-abbrev pub paper_station : StationAnswer → Told StationFigure
-paper_station (Is f) = gives f
-paper_station (Refused r) = refused r
+abbrev pub paper_station : Result StationFigure Refusal → Told StationFigure
+paper_station = told_of
 
-abbrev pub paper_numbers : NumbersAnswer → Told StationNumbers
-paper_numbers (Are n) = gives n
-paper_numbers (NoNumbers r) = refused r
+abbrev pub paper_numbers : Result StationNumbers Refusal → Told StationNumbers
+paper_numbers = told_of

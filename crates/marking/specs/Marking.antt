@@ -1,16 +1,17 @@
 -- When a typed answer counts (document 01, "Figures for the pages and typed answers"; 11 and 12 of "Refusal numbers"). Definitions only.
 -- A key and a window are whole thousandths of a kelvin for kelvins, and whole 0.00001 C.H.U./lb for a specific content.
-use Rattle.std.specs.Prelude.{Bool, true, false, not, ◌||◌, List, [], ◌∷◌, ℕ, ◌*◌, ℤ, pos, neg_ℤ, nat_abs, ◌-ℤ◌, ◌*ℤ◌, Float}
+use Rattle.std.specs.Prelude.{Bool, true, false, not, ◌||◌, List, [], ◌∷◌, ℕ, ◌*◌, ℤ, pos, neg_ℤ, nat_abs, ◌-ℤ◌, ◌*ℤ◌, Float, Result}
 use Rattle.std.specs.Int.Signed.{le_z}
 use Rattle.std.specs.Float.{nan, inf, fin}
 use Rattle.std.specs.Float.Ieee.{up, down}
 use Rattle.std.specs.Float.Ieee.Scale.{finite}
 use Rattle.signed.specs.Zed.{in_z}
-use Rattle.refusal.specs.Refusals.{Told, gives, refused, Line, ◌when◌, first}
+use Rattle.refusal.specs.declared.Refusal.{Refusal}
+use Rattle.refusal.specs.Refusals.{Told, told_as, Line, ◌when◌, first}
 use Rattle.marking.specs.declared.Typed.{Typed}
 use Rattle.marking.specs.declared.Typed.TheVariants.{Kelvins, Content, Blank}
-use Rattle.marking.specs.declared.MarkAnswer.{MarkAnswer}
-use Rattle.marking.specs.declared.MarkAnswer.TheVariants.{Counts, Misses, Refused}
+use Rattle.marking.specs.declared.Marked.{Marked}
+use Rattle.marking.specs.declared.Marked.TheVariants.{Counts, Misses}
 
 -- n with a float's sign; −0 is 0
 abbrev pub signed : Bool → ℕ → ℤ
@@ -64,7 +65,9 @@ abbrev pub marked : Typed → ℤ → ℤ → Told Bool
 marked typed key window = first (order typed key window) (counts typed key window)
 
 -- each case of a mark: whether the answer counts, or the refusal's number
-abbrev pub paper_mark : MarkAnswer → Told Bool
-paper_mark Counts = gives true
-paper_mark Misses = gives false
-paper_mark (Refused r) = refused r
+abbrev pub does_count : Marked → Bool
+does_count Counts = true
+does_count Misses = false
+
+abbrev pub paper_mark : Result Marked Refusal → Told Bool
+paper_mark = told_as does_count

@@ -1,6 +1,6 @@
 -- The figures that a station gives are exactly its whole numbers, and their differences, of any two stations, exactly the whole-number differences. No condition
 -- is asked: what is not refused is at most 2^52 in size. Assumes nothing.
-use Rattle.std.specs.Prelude.{◌≡◌, List, ℕ, ◌^◌, ◌≤◌, ℤ, pos, nat_abs, ◌-ℤ◌}
+use Rattle.std.specs.Prelude.{◌≡◌, List, ℕ, ◌^◌, ◌≤◌, ℤ, pos, nat_abs, ◌-ℤ◌, Ok}
 use Rattle.std.proofs.Common.{sym, arith}
 use Rattle.signed.specs.Zed.{up, in_range, apart, abs_parts, zed}
 use Rattle.refusal.specs.Refusals.{gives}
@@ -18,7 +18,6 @@ use Rattle.marking.specs.Figures.{figures_of, AllExactly, differences, station_s
 use Rattle.marking.specs.FiguresLaws.{figure_exact, like_figures}
 use Rattle.marking.specs.declared.inner.StationNumbers.{StationNumbers}
 use Rattle.marking.specs.declared.StationFigure.{StationFigure}
-use Rattle.marking.specs.declared.StationAnswer.TheVariants.{Is}
 
 -- ---- three whole numbers up to 2^52 in size
 pub record Small (mk specific mass : ℤ) : Type 0 where
@@ -71,7 +70,7 @@ numbers_small ch mk s e =
     rw (← given (heat_order document01 ch mk s) _ e)
     (readable_small (readable_of document01 ch mk s (sym (values_given (gas_of ch) (clear_order (heat_order document01 ch mk s) _ e)))))
 
-module _ (ch : Charge) (mk : ℤ) (s : List ℕ) {f : StationFigure} (e : paper_station (Is f) ≡ station_told ch mk s) where
+module _ (ch : Charge) (mk : ℤ) (s : List ℕ) {f : StationFigure} (e : paper_station (Ok f) ≡ station_told ch mk s) where
   given_figures : figures_of mk (station_specific ch mk s) (station_mass ch) ≡ f
   given_figures = given (heat_order document01 ch mk s) _ e
 
@@ -83,7 +82,7 @@ module _ (ch : Charge) (mk : ℤ) (s : List ℕ) {f : StationFigure} (e : paper_
   station_exact = rw (← given_figures) (small_exact given_small)
 
 -- "the difference of two like figures .. equals the whole-number difference", of any two stations; 0 is +0
-pub station_differences : (ch di : Charge) (mk nk : ℤ) (s t : List ℕ) {f g : StationFigure} → paper_station (Is f) ≡ station_told ch mk s → paper_station (Is g) ≡ station_told di nk t
+pub station_differences : (ch di : Charge) (mk nk : ℤ) (s t : List ℕ) {f g : StationFigure} → paper_station (Ok f) ≡ station_told ch mk s → paper_station (Ok g) ≡ station_told di nk t
     → AllExactly (mk -ℤ nk) (station_specific ch mk s -ℤ station_specific di nk t) (station_mass ch -ℤ station_mass di) (differences f g)
 station_differences ch di mk nk s t p q =
     rw (← given_figures ch mk s p, ← given_figures di nk t q) (small_differences (given_small ch mk s p) (given_small di nk t q))

@@ -70,10 +70,10 @@ struct Cut {
 // scale * digits / 2^k, rounded down and rounded up. The product has up to 70 binary places: twelve are shifted off part by part, so that the rest fits 64 bits, and then
 // the others. Ones added to the places that go round up, as a sticky bit would.
 fn cut_by(scale: u64, digits: u64, k: u64) -> Cut
-    requires fact_1 { scale ≤ 100000 }
-    requires fact_2 { digits < 2 ^ 53 }
-    requires fact_3 { 12 ≤ k }
-    requires fact_4 { k ≤ 70 }
+    requires scale_most { scale ≤ 100000 }
+    requires digits_most { digits < 2 ^ 53 }
+    requires places_least { 12 ≤ k }
+    requires places_most { k ≤ 70 }
     ensures { CutOf (scale * digits) (2 ^ k) result }
 {
     let high = scale * (digits >> 12);
@@ -88,10 +88,10 @@ fn cut_by(scale: u64, digits: u64, k: u64) -> Cut
 
 // Whether scale times the size of these fields lies from lo to hi. Both ends are always compared, so that nothing hangs on how well a processor guesses.
 pub(crate) fn lies(scale: u64, fields: Fields, lo: i64, hi: i64) -> bool
-    requires fact_1 { 0 < scale }
-    requires fact_2 { scale ≤ 100000 }
-    requires fact_3 { fields.fraction < 2 ^ 52 }
-    requires fact_4 { hi ≤ℤ pos 1000000100000 }
+    requires scale_some { 0 < scale }
+    requires scale_most { scale ≤ 100000 }
+    requires fraction_most { fields.fraction < 2 ^ 52 }
+    requires end_most { hi ≤ℤ pos 1000000100000 }
     ensures { result ≡ spans (scale * sized fields.exponent fields.fraction) (2 ^ 1074) lo hi }
 {
     let digits = significand_of(fields.exponent, fields.fraction);

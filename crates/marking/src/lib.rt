@@ -18,17 +18,12 @@ ghost use Rattle.marking.specs.Figures.{figures_of, paper_station, station_told}
 
 use air::Millikelvin;
 use burning::Charge;
-use inner::NumbersAnswer;
+use inner::StationNumbers;
 use refusal::Refusal;
-use sheet::SheetAnswer;
 
 const KEY_LIMIT: i64 = 1_000_000_000_000;
 
 const WINDOW_LIMIT: i64 = 100_000;
-
-const NO_NUMBER: u32 = 11;
-
-const OUT_OF_RANGE: u32 = 12;
 
 // What a candidate typed in: kelvins, a specific content in C.H.U./lb, or nothing.
 #[derive(Clone, Copy)]
@@ -38,67 +33,54 @@ pub enum Typed {
     Blank,
 }
 
-// Whether a typed answer counts, or why it is not marked.
+// Whether a typed answer counts.
 #[derive(Clone, Copy)]
-pub enum MarkAnswer {
+pub enum Marked {
     Counts,
     Misses,
-    Refused(Refusal),
-}
-
-// The number that was typed, with its scale.
-#[derive(Clone, Copy)]
-enum Scaled {
-    Number(u64, f64),
-    Nothing,
 }
 
 // A typed answer's number with the scale of its kind. It is picked first, so that a number is marked in one place: in two copies, one for each scale, the compiler branches on the answer.
-fn at_scale(typed: Typed) -> Scaled
+fn at_scale(typed: Typed) -> Option<(u64, f64)>
     ensures { result ≡ scaled_of typed }
 {
     match typed {
-        Typed::Kelvins(x) => Scaled::Number(1_000, x),
-        Typed::Content(x) => Scaled::Number(100_000, x),
-        Typed::Blank => Scaled::Nothing,
+        Typed::Kelvins(x) => Some((1_000, x)),
+        Typed::Content(x) => Some((100_000, x)),
+        Typed::Blank => None,
     }
 }
 
 // The mark of a typed answer against a key and a window.
-pub fn mark(typed: Typed, key: i64, window: i64) -> MarkAnswer
+pub fn mark(typed: Typed, key: i64, window: i64) -> Result<Marked, Refusal>
     ensures { paper_mark result ≡ marked typed key window }
 {
-    if !signed::inside(key, -KEY_LIMIT, KEY_LIMIT) {
-        return MarkAnswer::Refused(Refusal::Plain(OUT_OF_RANGE));
+    if !signed::inside(key, -KEY_LIMIT, KEY_LIMIT) || !signed::inside(window, 0, WINDOW_LIMIT) {
+        return Err(Refusal::OutOfRange);
     }
-    if !signed::inside(window, 0, WINDOW_LIMIT) {
-        return MarkAnswer::Refused(Refusal::Plain(OUT_OF_RANGE));
-    }
-    match at_scale(typed) {
-        Scaled::Number(scale, x) => mark_number(scale, x, key, window),
-        Scaled::Nothing => MarkAnswer::Refused(Refusal::Plain(NO_NUMBER)),
-    }
+    let Some((scale, x)) = at_scale(typed) else {
+        return Err(Refusal::NoNumber);
+    };
+    mark_number(scale, x, key, window)
 }
 
 // The mark of a number at a scale, for a key and a window in range.
-fn mark_number(scale: u64, x: f64, key: i64, window: i64) -> MarkAnswer
-    requires fact_1 { 0 < scale }
-    requires fact_2 { scale ≤ 100000 }
-    requires fact_3 { out_of_range key window ≡ false }
+// stays: the facts of a scale are clauses here, of `lies` and of `cut_by`, and no ghost fields: a struct of one number would have to be built with its proofs in `scaled_of`, and is no plainer.
+fn mark_number(scale: u64, x: f64, key: i64, window: i64) -> Result<Marked, Refusal>
+    requires scale_some { 0 < scale }
+    requires scale_most { scale ≤ 100000 }
+    requires in_range { out_of_range key window ≡ false }
     ensures { paper_mark result ≡ first (11 when not (finite x) ∷ []) (near scale x key window) }
 {
-    if x != x {
-        return MarkAnswer::Refused(Refusal::Plain(NO_NUMBER));
+    if !x.is_finite() {
+        return Err(Refusal::NoNumber);
     }
     let fields = exact::fields_of(x);
-    if fields.exponent == 2047 {
-        return MarkAnswer::Refused(Refusal::Plain(NO_NUMBER));
-    }
     let middle = exact::turn(fields.negative, key);
     if exact::lies(scale, fields, middle - window, middle + window) {
-        MarkAnswer::Counts
+        Ok(Marked::Counts)
     } else {
-        MarkAnswer::Misses
+        Ok(Marked::Misses)
     }
 }
 
@@ -110,39 +92,28 @@ pub struct StationFigure {
     pub mass: f64,
 }
 
-// A station's figures, or the refusal.
-#[derive(Clone, Copy)]
-pub enum StationAnswer {
-    Is(StationFigure),
-    Refused(Refusal),
-}
-
 // The three whole numbers as figures, with no loss.
-fn figures(mk: i64, specific: i64, mass: i64) -> StationFigure
-    requires fact_1 { nat_abs mk ≤ 2 ^ 53 }
-    requires fact_2 { nat_abs specific ≤ 2 ^ 53 }
-    requires fact_3 { nat_abs mass ≤ 2 ^ 53 }
-    ensures { result ≡ figures_of mk specific mass }
+fn figures(numbers: StationNumbers) -> StationFigure
+    requires mk_in_float { nat_abs numbers.mk ≤ 2 ^ 53 }
+    requires specific_in_float { nat_abs numbers.specific ≤ 2 ^ 53 }
+    requires mass_in_float { nat_abs numbers.mass ≤ 2 ^ 53 }
+    ensures { result ≡ figures_of numbers.mk numbers.specific numbers.mass }
 {
     StationFigure {
-        millikelvin: mk as f64,
-        content: specific as f64,
-        mass: mass as f64,
+        millikelvin: numbers.mk as f64,
+        content: numbers.specific as f64,
+        mass: numbers.mass as f64,
     }
 }
 
 // The figures of a charge at a temperature.
-pub fn station(charge: Charge, t: Millikelvin, sheet: &[u32]) -> StationAnswer
+pub fn station(charge: Charge, t: Millikelvin, sheet: &[u32]) -> Result<StationFigure, Refusal>
     ensures { paper_station result ≡ station_told charge t.0 sheet.now }
 {
-    let air = rows::columns::heat_column();
-    match sheet::inner::judge(sheet, &air) {
-        SheetAnswer::Refused(r) => StationAnswer::Refused(r),
-        SheetAnswer::Good => match inner::station_judged(charge, t, sheet, &air) {
-            NumbersAnswer::Are(n) => StationAnswer::Is(figures(n.mk, n.specific, n.mass)),
-            NumbersAnswer::Refused(r) => StationAnswer::Refused(r),
-        },
-    }
+    let heats = rows::columns::heat_column();
+    let accepted = sheet::inner::judge(sheet, &heats)?;
+    let numbers = inner::station_judged(charge, t, accepted)?;
+    Ok(figures(numbers))
 }
 
 // One figure less a like one, by one float subtraction.

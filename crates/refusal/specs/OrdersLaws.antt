@@ -2,8 +2,7 @@
 -- nothing.
 use Rattle.std.specs.Prelude.{◌≡◌, refl, List, [], ◌∷◌, ◌++◌, Bool, true, false, ℕ}
 use Rattle.std.proofs.Common.{sym, ap, ◌∙◌}
-use Rattle.refusal.specs.declared.Refusal.{Refusal}
-use Rattle.refusal.specs.Refusals.{Told, gives, refused, Line, ◌when◌, condition, first, and_then, Clear, none, clear}
+use Rattle.refusal.specs.Refusals.{Numbered, Told, gives, refused, Line, ◌when◌, condition, first, and_then, Clear, none, clear}
 use Rattle.refusal.specs.BoolLaws.{by_bool}
 use Rattle.refusal.specs.RefusalsLaws.{no_refusal, values_given, gives_clear}
 
@@ -17,7 +16,7 @@ in_parts ls ms a b = one_order ls a (λ x. first ms b) ms b refl
 
 module _ {A B : Type 0} (ls ms : List Line) (a : A) (b : B) where
   -- a refusal of the first part is the answer
-  pub stopped_first : (r : Refusal) → refused r ≡ first ls a → refused r ≡ first (ls ++ ms) b
+  pub stopped_first : (r : Numbered) → refused r ≡ first ls a → refused r ≡ first (ls ++ ms) b
   stopped_first r e = sym (in_parts ls ms a b ∙ ap (λ (t : Told A). and_then t (λ x. first ms b)) (sym e))
 
   -- and where it gives its values, the second part decides
@@ -47,7 +46,7 @@ told_through ls a f e q = ap gives (q ∙ ap f (sym (given ls a e))) ∙ sym (va
 
 -- ---- an order of one line
 module _ {A : Type 0} (n : ℕ) (b : Bool) (a : A) where
-  pub line_held : {r : Refusal} → refused r ≡ first (n when b ∷ []) a → b ≡ true
+  pub line_held : {r : Numbered} → refused r ≡ first (n when b ∷ []) a → b ≡ true
   line_held {r} e = by_bool b (λ h. h) (λ h. absurd (no_refusal a r (sym (e ∙ rw h refl))))
 
   pub line_clear : {x : A} → gives x ≡ first (n when b ∷ []) a → (b ≡ false) × (a ≡ x)

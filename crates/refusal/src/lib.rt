@@ -1,23 +1,75 @@
-// A refusal (document 01, "Refusal numbers"): what every call gives in place of its values. The crate is below all others, so that a crate that refuses needs this one for it
-// and no more. specs/ has what a call tells, the order of its refusals, and demand 1 over any order (specs/Refusals.antt, specs/RefusalsLaws.antt).
+// A refusal (document 01, "Refusal numbers"): why a call gives no values, as the `Err` of its `Result`. The crate is below all others, so that a crate that refuses needs
+// this one for it and no more. specs/ has the paper's numbers of the refusals, what a call tells, the order of its refusals, and demand 1 over any order
+// (specs/Refusals.antt, specs/RefusalsLaws.antt).
 #![tactic(auto)]
 
-ghost use Rattle.std.specs.Prelude.{◌≡◌};
-ghost use Rattle.refusal.specs.Refusals.{number_of};
-
-// A number of document 01; for some with the place that it is given for: for 2 and 3 the first bad row.
-#[derive(Clone, Copy)]
+// Why a call gives no values. Two are given for a row, the first that is bad.
+#[derive(Clone, Copy, Debug, PartialEq, Eq)]
 pub enum Refusal {
-    Plain(u32),
-    At(u32, u32),
+    // 1: a lent sheet list is not as long as a sheet
+    ListLength,
+    // 2: sheet text breaks its form
+    Form(u32),
+    // 3: a value over the most in a sheet list, or step rule broken
+    BadRow(u32),
+    // 4: A, c or h outside its limit
+    Limit,
+    // 5: not lean
+    Rich,
+    // 6: temperature outside range
+    Temperature,
+    // 7: calorific value or q of a step outside range
+    StepHeat,
+    // 8: target below the value at 200 K
+    Below,
+    // 9: target above the value at 2,000 K
+    Above,
+    // 10: a lent list too short for what is to be written
+    ShortList,
+    // 11: answer blank, infinite or not a number
+    NoNumber,
+    // 12: key or window out of range
+    OutOfRange,
+    // 13: steps list not a multiple of four long, or over the most numbers
+    Steps,
+    // 14: a lent buffer is shorter than the text
+    ShortBuffer,
 }
 
-// The number of a refusal, wherever it is given.
-pub fn number_of(refusal: Refusal) -> u32
-    ensures { result ≡ number_of refusal }
-{
-    match refusal {
-        Refusal::Plain(number) => number,
-        Refusal::At(number, _) => number,
+impl Refusal {
+    ghost use Rattle.std.specs.Prelude.{◌≡◌};
+    ghost use Rattle.refusal.specs.Refusals.{number_of, numbered, place_of};
+
+    // The number that the paper gives it.
+    pub fn number(self) -> u32
+        ensures { result ≡ number_of (numbered self) }
+    {
+        match self {
+            Refusal::ListLength => 1,
+            Refusal::Form(_) => 2,
+            Refusal::BadRow(_) => 3,
+            Refusal::Limit => 4,
+            Refusal::Rich => 5,
+            Refusal::Temperature => 6,
+            Refusal::StepHeat => 7,
+            Refusal::Below => 8,
+            Refusal::Above => 9,
+            Refusal::ShortList => 10,
+            Refusal::NoNumber => 11,
+            Refusal::OutOfRange => 12,
+            Refusal::Steps => 13,
+            Refusal::ShortBuffer => 14,
+        }
+    }
+
+    // The row that it is given for, where it is given for one.
+    pub fn row(self) -> Option<u32>
+        ensures { result ≡ place_of (numbered self) }
+    {
+        match self {
+            Refusal::Form(row) => Some(row),
+            Refusal::BadRow(row) => Some(row),
+            _ => None,
+        }
     }
 }

@@ -16,17 +16,12 @@ pub const LAST_KELVIN: u64 = 2000;
 
 pub const ROWS: usize = (LAST_KELVIN - FIRST_KELVIN + 1) as usize;
 
-// The number in 64 bits.
-pub fn wide(x: u32) -> u64
-    ensures { (result ≡ x) × (result < 4294967296) }
-{
-    x as u64
-}
-
 // The figure of a whole kelvin in any column.
+// stays: a kelvin is a number with two bounds in clauses here and above, and no type, which would be no plainer: it is worked with as a number, and each k + 1 would be proved anew.
+#[tactic(auto, using(crate::proofs::TableLaws::column_in))]
 pub fn figure(rows: &[u32; ROWS], kelvin: u64) -> u64
     requires { (first_kelvin ≤ kelvin) × (kelvin ≤ last_kelvin) }
     ensures { (result ≡ column rows.now kelvin) × (result < 4294967296) }
 {
-    wide(rows[(kelvin - FIRST_KELVIN) as usize])
+    u64::from(rows[(kelvin - FIRST_KELVIN) as usize])
 }

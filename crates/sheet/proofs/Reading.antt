@@ -6,24 +6,22 @@ use Prim.Native.Nat.{ℕ}
 use lib.ListN.{length}
 use borrow.Author.Tests.{eq-eqb, ne_eqb}
 use Rattle.text.specs.Fold.{run}
-use Rattle.refusal.specs.declared.Refusal.TheVariants.{Plain, At}
+use Rattle.refusal.specs.declared.Refusal.TheVariants.{ListLength, Form}
 use Rattle.sheet_text.specs.Limits.{sheet_numbers}
-use Rattle.sheet.specs.declared.SheetAnswer.TheVariants.{Good, Refused}
+use Rattle.std.specs.Prelude.{Ok, Err}
 use Rattle.sheet_text.specs.declared.Place.{Place}
-use Rattle.sheet_text.specs.declared.State.{State}
-use Rattle.sheet_text.specs.declared.State.TheVariants.{Going}
 use Rattle.sheet.specs.Answers.{sheet_of, no_sheet, SheetRead}
-use Rattle.sheet_text.specs.Machine.{start, step, row_of, whole_sheet, Filled, filled, fill_byte}
+use Rattle.sheet_text.specs.Machine.{start, step, row_of, whole_sheet, Filled, filled, fill_byte, State}
 use Rattle.sheet_text.specs.HeldLaws.{sound, same_state}
 use Rattle.sheet_text.specs.FirstBadLaws.{not_whole_bad}
 use Rattle.sheet.specs.FormLaws.{form_of}
 
-pub wrong_length : (text l : List ℕ) → (length l ≡ sheet_numbers → ⊥) → SheetRead text l (Refused (Plain 1)) l
+pub wrong_length : (text l : List ℕ) → (length l ≡ sheet_numbers → ⊥) → SheetRead text l (Err ListLength) l
 wrong_length text l n = record { form = form_of text; told = rw (ne_eqb (length l) sheet_numbers n) refl; list = refl }
 
 -- numbers is the reader's own list before the text was read into it, and after is that list then
-module _ (text l numbers after : List ℕ) (n : length l ≡ sheet_numbers) (m : length numbers ≡ sheet_numbers) {from : Place} {s : State} {w : Bool} (first : Going from ≡ start)
-    (fills : filled s after ≡ run fill_byte (filled (Going from) numbers) text) (tested : w ≡ whole_sheet s) where
+module _ (text l numbers after : List ℕ) (n : length l ≡ sheet_numbers) (m : length numbers ≡ sheet_numbers) {from : Place} {s : State} {w : Bool} (first : Ok from ≡ start)
+    (fills : filled s after ≡ run fill_byte (filled (Ok from) numbers) text) (tested : w ≡ whole_sheet s) where
   fills_is : filled s after ≡ run fill_byte (filled start numbers) text
   fills_is = fills ∙ ap (λ (x : State). run fill_byte (filled x numbers) text) first
 
@@ -33,7 +31,7 @@ module _ (text l numbers after : List ℕ) (n : length l ≡ sheet_numbers) (m :
   test_is : w ≡ whole_sheet (run step start text)
   test_is = tested ∙ ap whole_sheet state_is
 
-  pub sheet_read : {later : List ℕ} → w ≡ true → later ≡ after → SheetRead text l Good later
+  pub sheet_read : {later : List ℕ} → w ≡ true → later ≡ after → SheetRead text l (Ok tt) later
   sheet_read {later} t c =
       let e : later ≡ (run fill_byte (filled start numbers) text).list = c ∙ ap (λ (x : Filled). x.list) fills_is in
       record {
@@ -42,7 +40,7 @@ module _ (text l numbers after : List ℕ) (n : length l ≡ sheet_numbers) (m :
         list = refl;
       }
 
-  pub bad_row_lem : {r : ℕ} → w ≡ false → r ≡ row_of s → SheetRead text l (Refused (At 2 r)) l
+  pub bad_row_lem : {r : ℕ} → w ≡ false → r ≡ row_of s → SheetRead text l (Err (Form r)) l
   bad_row_lem {r} t e = record {
     form = no_sheet r (rw (e, state_is) (not_whole_bad text (sym test_is ∙ t)));
     told = rw (eq-eqb (length l) sheet_numbers n) refl;

@@ -1,17 +1,19 @@
 -- What the calls on a sheet tell (document 01, "The gas sheet" and refusals 1 to 3): the reader of a text, which judges its form only and fills the lent list,
 -- and the judge of a list.
-use Rattle.std.specs.Prelude.{◌≡◌, Bool, true, false, List, [], ◌∷◌, ℕ, ltb}
-use Rattle.refusal.specs.Refusals.{Told, gives, refused, Line, ◌when◌, ◌at_place◌when◌, first}
+use Rattle.std.specs.Prelude.{◌≡◌, Bool, true, false, List, [], ◌∷◌, ℕ, ltb, Result, Ok, Err}
+use Rattle.refusal.specs.declared.Refusal.{Refusal}
+use Rattle.refusal.specs.Refusals.{Told, told_of, Line, ◌when◌, ◌at_place◌when◌, first}
 use Rattle.rows.specs.Limits.{table_rows}
-use Rattle.sheet.specs.declared.SheetAnswer.{SheetAnswer}
-use Rattle.sheet.specs.declared.SheetAnswer.TheVariants.{Good, Refused}
 use Rattle.sheet_text.specs.Text.{IsSheet, FirstBad}
 use Rattle.sheet.specs.Sheet.{not_long, first_bad_row}
 
--- an answer as the paper has it: good, with no value of its own, or the refusal
+-- a good sheet, with no value of its own, or the refusal
+abbrev pub SheetAnswer : Type 0
+SheetAnswer = Result (Unit {0}) Refusal
+
+-- an answer as the paper has it
 abbrev pub paper_sheet : SheetAnswer → Told (Unit {0})
-paper_sheet Good = gives tt
-paper_sheet (Refused r) = refused r
+paper_sheet = told_of
 
 -- a text held against the form: the sheet of its numbers, or none, with its first bad row
 pub data Form (text : List ℕ) : Type 0 where
@@ -39,8 +41,8 @@ read_told before form = first (1 when not_long before ∷ 2 at_place bad_row_of 
 
 -- the list on return: all numbers of a good sheet, and unchanged by a refusal
 abbrev pub list_after : SheetAnswer → List ℕ → List ℕ → List ℕ
-list_after Good numbers before = numbers
-list_after (Refused r) numbers before = before
+list_after (Ok u) numbers before = numbers
+list_after (Err r) numbers before = before
 
 -- the whole of a reading. Every text has one form, and no two (FormLaws.antt)
 pub record SheetRead (text before : List ℕ) (answer : SheetAnswer) (later : List ℕ) : Type 0 where

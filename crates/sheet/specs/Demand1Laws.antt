@@ -3,15 +3,13 @@ use Rattle.std.specs.Prelude.{◌≡◌, List, [], ◌∷◌, ℕ}
 use Rattle.refusal.specs.Refusals.{◌when◌, ◌at_place◌when◌, Demand1}
 use Rattle.refusal.specs.RefusalsLaws.{demand_1}
 use Rattle.sheet_text.specs.Text.{text_length}
-use Rattle.sheet.specs.declared.SheetAnswer.{SheetAnswer}
-use Rattle.sheet.specs.declared.WriteAnswer.{WriteAnswer}
 use Rattle.sheet.specs.Sheet.{not_long}
-use Rattle.sheet.specs.Answers.{paper_sheet, breaks, bad_row_of, SheetRead, sheet_lines, judge_told}
+use Rattle.sheet.specs.Answers.{paper_sheet, breaks, bad_row_of, SheetRead, sheet_lines, judge_told, SheetAnswer}
 use Rattle.sheet.specs.declared.pieces.SheetReading.{SheetReading}
 use Rattle.sheet.specs.declared.pieces.Taken.{Taken}
 use Rattle.sheet.specs.declared.pieces.Closed.{Closed}
 use Rattle.sheet.specs.Pieces.{after_piece, after_close, piece_lines, progress, paper_piece, PieceRead, ReadingClosed}
-use Rattle.sheet.specs.Writing.{paper_write, write_lines, SheetWritten}
+use Rattle.sheet.specs.Writing.{paper_write, write_lines, SheetWritten, WriteAnswer}
 
 -- the text's own form: whether it breaks its form, and its first bad row
 pub demand_1_read_sheet : {text before later : List ℕ} {a : SheetAnswer} (h : SheetRead text before a later)

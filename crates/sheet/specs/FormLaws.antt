@@ -1,6 +1,6 @@
 -- Every text has one form, and no two: the sheet of its numbers, or none with its first bad row. Assumes nothing.
 use Rattle.std.specs.Prelude.{◌≡◌, refl, Bool, true, false, List, ℕ}
-use Rattle.std.proofs.Common.{sym, ◌∙◌, ap, arith}
+use Rattle.std.proofs.Common.{sym, ◌∙◌, ap}
 use Rattle.text.specs.Fold.{run}
 use Rattle.sheet_text.specs.Text.{IsSheet, FirstBad}
 use Rattle.sheet.specs.Answers.{Form, sheet_of, no_sheet, breaks, bad_row_of, numbers_of}
@@ -31,8 +31,7 @@ never : {A : Type 0} (text s : List ℕ) (r : ℕ) → IsSheet text s → FirstB
 never text s r h b =
     let t : whole_sheet (run step start text) ≡ true = ap whole_sheet (sheet_whole text s h) in
     let f : whole_sheet (run step start text) ≡ false = (bad_row_is text r b).0 in
-    let z : ◌≡◌ {A = ℕ} 0 1 = cc in
-    absurd (omega arith)
+    absurd cc
 
 pub one_form : {text : List ℕ} (f g : Form text) → Same f g
 one_form {text} (sheet_of s h) (sheet_of t k) = record { breaks_same = refl; row_same = refl; numbers_same = sym (numbers_read text s h) ∙ numbers_read text t k }

@@ -1,32 +1,20 @@
 -- No two outcomes satisfy the promise of a call on a sheet: `one_NAME` for each entry NAME. Assumes nothing.
-use Rattle.std.specs.Prelude.{◌≡◌, refl, List, ℕ}
-use Rattle.std.proofs.Common.{sym, ◌∙◌, ap, ap₂}
-use Rattle.refusal.specs.Refusals.{Told, gives, refused}
-use Rattle.refusal.specs.RefusalsLaws.{one_told}
-use Rattle.sheet.specs.declared.SheetAnswer.{SheetAnswer}
-use Rattle.sheet.specs.declared.SheetAnswer.TheVariants.{Good, Refused}
-use Rattle.sheet.specs.declared.WriteAnswer.{WriteAnswer}
-use Rattle.sheet.specs.Answers.{paper_sheet, read_told, list_after, SheetRead, judge_told}
-use Rattle.sheet.specs.Writing.{paper_write, SheetWritten}
-use Rattle.sheet.specs.Pieces.{opened, Progress, more, accepted, paper_piece, PieceRead, ReadingClosed}
+use Rattle.std.specs.Prelude.{◌≡◌, refl, List, ℕ, Result}
+use Rattle.std.proofs.Common.{sym, ◌∙◌, ap₂}
+use Rattle.refusal.specs.declared.Refusal.{Refusal}
+use Rattle.refusal.specs.Refusals.{Told}
+use Rattle.refusal.specs.RefusalsLaws.{one_told_of}
+use Rattle.sheet.specs.Answers.{paper_sheet, read_told, list_after, SheetRead, judge_told, SheetAnswer}
+use Rattle.sheet.specs.Writing.{paper_write, SheetWritten, WriteAnswer}
+use Rattle.sheet.specs.declared.pieces.Progress.{Progress}
+use Rattle.sheet.specs.Pieces.{opened, paper_piece, PieceRead, ReadingClosed}
 use Rattle.sheet.specs.declared.pieces.SheetReading.{SheetReading}
-use Rattle.sheet.specs.declared.pieces.PieceAnswer.{PieceAnswer}
 use Rattle.sheet.specs.declared.pieces.Taken.{Taken}
 use Rattle.sheet.specs.declared.pieces.Closed.{Closed}
 use Rattle.sheet.specs.FormLaws.{one_form}
 
--- the answer of what it tells
-answer_of : Told (Unit {0}) → SheetAnswer
-answer_of (gives a) = Good
-answer_of (refused r) = Refused r
-
-answer_back : (a : SheetAnswer) → answer_of (paper_sheet a) ≡ a
-unfolding answer_of
-answer_back Good = refl
-answer_back (Refused r) = refl
-
 pub one_answer : (a b : SheetAnswer) → paper_sheet a ≡ paper_sheet b → a ≡ b
-one_answer a b e = sym (answer_back a) ∙ (ap answer_of e ∙ answer_back b)
+one_answer a b e = one_told_of a b e refl
 
 pub one_read_sheet : {text before later after : List ℕ} {a b : SheetAnswer} → SheetRead text before a later → SheetRead text before b after → (a ≡ b) × (later ≡ after)
 one_read_sheet {text} {before} {later} {after} {a} {b} p q =
@@ -40,35 +28,15 @@ pub one_judge_sheet : (s : List ℕ) (a b : SheetAnswer) → paper_sheet a ≡ j
 one_judge_sheet s a b p q = one_answer a b (p ∙ sym q)
 
 -- the writer
-write_answer_of : Told ℕ → WriteAnswer
-write_answer_of (gives n) = WriteAnswer.Written n
-write_answer_of (refused r) = WriteAnswer.Refused r
-
-write_back : (a : WriteAnswer) → write_answer_of (paper_write a) ≡ a
-unfolding write_answer_of
-write_back (WriteAnswer.Written n) = refl
-write_back (WriteAnswer.Refused r) = refl
-
 pub one_written : {t : Told ℕ} (a b : WriteAnswer) → paper_write a ≡ t → paper_write b ≡ t → a ≡ b
-one_written = one_told paper_write write_answer_of write_back
+one_written = one_told_of
 
 pub one_write_sheet : {s before later after : List ℕ} {a b : WriteAnswer} → SheetWritten s before a later → SheetWritten s before b after → (a ≡ b) × (later ≡ after)
 one_write_sheet {a = a} {b = b} p q = (one_written a b p.told q.told, p.buffer ∙ sym q.buffer)
 
 -- a piece, and the close
-piece_answer_of : Told Progress → PieceAnswer
-piece_answer_of (gives more) = PieceAnswer.More
-piece_answer_of (gives accepted) = PieceAnswer.Accepted
-piece_answer_of (refused r) = PieceAnswer.Refused r
-
-piece_back : (a : PieceAnswer) → piece_answer_of (paper_piece a) ≡ a
-unfolding piece_answer_of
-piece_back PieceAnswer.More = refl
-piece_back PieceAnswer.Accepted = refl
-piece_back (PieceAnswer.Refused r) = refl
-
-pub one_piece_answer : {t : Told Progress} (a b : PieceAnswer) → paper_piece a ≡ t → paper_piece b ≡ t → a ≡ b
-one_piece_answer = one_told paper_piece piece_answer_of piece_back
+pub one_piece_answer : {t : Told Progress} (a b : Result Progress Refusal) → paper_piece a ≡ t → paper_piece b ≡ t → a ≡ b
+one_piece_answer = one_told_of
 
 pub one_open_reading : (r q : SheetReading) → r ≡ opened → q ≡ opened → r ≡ q
 one_open_reading r q p o = p ∙ sym o
@@ -76,7 +44,7 @@ one_open_reading r q p o = p ∙ sym o
 pub one_read_piece : {s : SheetReading} {piece before later after : List ℕ} {a b : Taken} → PieceRead s piece before a later → PieceRead s piece before b after → (a ≡ b) × (later ≡ after)
 one_read_piece {a = a} {b = b} p q =
     let e = one_piece_answer a.answer b.answer p.told q.told in
-    (ap₂ (λ (s : SheetReading) (x : PieceAnswer). record { reading = s; answer = x }) (p.reading ∙ sym q.reading) e, p.list ∙ sym q.list)
+    (ap₂ (λ (s : SheetReading) (x : Result Progress Refusal). record { reading = s; answer = x }) (p.reading ∙ sym q.reading) e, p.list ∙ sym q.list)
 
 pub one_close_reading : {s : SheetReading} {l : List ℕ} {a b : Closed} → ReadingClosed s l a → ReadingClosed s l b → a ≡ b
 one_close_reading {a = a} {b = b} p q =

@@ -2,31 +2,26 @@
 -- closing call. Refusal 1 is tested first at each call, changes nothing and does not end the reading. Refusal 2 comes with the piece that holds the byte that decides it, or at the
 -- close; it leaves the rows before the bad one filled and no others changed. After refusal 2 or a close each further call with a list of the right length changes nothing and
 -- repeats the answer. What is handed in as a reading is taken as it is, whatever it is.
-use Rattle.std.specs.Prelude.{◌≡◌, Bool, true, false, cond, List, [], ◌∷◌, ◌++◌, ℕ, eqb}
+use Rattle.std.specs.Prelude.{◌≡◌, Bool, true, false, cond, List, [], ◌∷◌, ◌++◌, ℕ, eqb, Result, Ok, Err}
 use Rattle.text.specs.Fold.{run}
 use Rattle.rows.specs.Limits.{table_rows}
-use Rattle.refusal.specs.Refusals.{Told, gives, refused, Line, ◌when◌, ◌at_place◌when◌, first}
-use Rattle.refusal.specs.declared.Refusal.TheVariants.{Plain, At}
+use Rattle.refusal.specs.declared.Refusal.{Refusal}
+use Rattle.refusal.specs.Refusals.{Numbered, Plain, At, numbered, Told, told_of, Line, ◌when◌, ◌at_place◌when◌, first}
 use Rattle.sheet_text.specs.Text.{RowsIn}
-use Rattle.sheet_text.specs.Machine.{start, step_place, stored_place}
-use Rattle.sheet_text.specs.declared.State.{State}
-use Rattle.sheet_text.specs.declared.State.TheVariants.{Going as At-place, Bad}
-use Rattle.sheet.specs.declared.SheetAnswer.{SheetAnswer}
-use Rattle.sheet.specs.declared.SheetAnswer.TheVariants.{Good, Refused as SheetRefused}
+use Rattle.sheet_text.specs.Machine.{start, step_place, stored_place, State}
 use Rattle.sheet.specs.declared.pieces.SheetReading.{SheetReading}
 use Rattle.sheet.specs.declared.pieces.SheetReading.TheVariants.{Going, Refused, Accepted}
-use Rattle.sheet.specs.declared.pieces.PieceAnswer.{PieceAnswer}
-use Rattle.sheet.specs.declared.pieces.PieceAnswer.TheVariants.{More, Accepted as PieceAccepted, Refused as PieceRefused}
+use Rattle.sheet.specs.declared.pieces.Progress.{Progress}
 use Rattle.sheet.specs.declared.pieces.Taken.{Taken}
 use Rattle.sheet.specs.declared.pieces.Closed.{Closed}
 use Rattle.sheet.specs.Sheet.{not_long}
-use Rattle.sheet.specs.Answers.{paper_sheet, Form, numbers_of, read_told}
+use Rattle.sheet.specs.Answers.{paper_sheet, Form, numbers_of, read_told, SheetAnswer}
 
 -- ---- where a reading stands
 -- a place of the one reader of a sheet's text, or the row for which that reader refuses it
 abbrev pub reading_of : State → SheetReading
-reading_of (At-place p) = Going p
-reading_of (Bad r) = Refused r
+reading_of (Ok p) = Going p
+reading_of (Err r) = Refused r
 
 -- no byte has come
 abbrev pub opened : SheetReading
@@ -76,19 +71,14 @@ abbrev pub piece_lines : List ℕ → SheetReading → List Line
 piece_lines l after = 1 when not_long l ∷ 2 at_place row_refused after when is_refused after ∷ []
 
 -- what a piece is told that is not refused: more is expected, or the sheet is accepted (a reading that is refused is told by its line)
-pub data Progress : Type 0 where
-  more : Progress
-  accepted : Progress
-
 abbrev pub progress : SheetReading → Progress
-progress (Going p) = more
-progress (Refused r) = accepted
-progress Accepted = accepted
+progress (Going p) = Progress.More
+progress (Refused r) = Progress.Accepted
+progress Accepted = Progress.Accepted
 
-abbrev pub paper_piece : PieceAnswer → Told Progress
-paper_piece More = gives more
-paper_piece PieceAccepted = gives accepted
-paper_piece (PieceRefused r) = refused r
+-- an answer to a piece, as the paper has it
+abbrev pub paper_piece : Result Progress Refusal → Told Progress
+paper_piece = told_of
 
 abbrev pub piece_told : SheetReading → List ℕ → List ℕ → Told Progress
 piece_told s piece l = first (piece_lines l (after_piece s piece l).reading) (progress (after_piece s piece l).reading)
@@ -108,16 +98,16 @@ pub record ReadingClosed (s : SheetReading) (l : List ℕ) (r : Closed) : Type 0
   pub reading : r.reading ≡ cond (not_long l) s (after_close s)
 
 -- ---- the answer of a reading, to a piece and to the close
-abbrev pub answer_of : SheetReading → PieceAnswer
-answer_of (Going p) = More
-answer_of (Refused r) = PieceRefused (At 2 r)
-answer_of Accepted = PieceAccepted
+abbrev pub answer_of : SheetReading → Result Progress Refusal
+answer_of (Going p) = Ok Progress.More
+answer_of (Refused r) = Err (Refusal.Form r)
+answer_of Accepted = Ok Progress.Accepted
 
 abbrev pub refused_at : ℕ → Closed
-refused_at r = record { reading = Refused r; answer = SheetRefused (At 2 r) }
+refused_at r = record { reading = Refused r; answer = Err (Refusal.Form r) }
 
 abbrev pub accepted_closed : Closed
-accepted_closed = record { reading = Accepted; answer = Good }
+accepted_closed = record { reading = Accepted; answer = Ok tt }
 
 abbrev pub closed : SheetReading → Closed
 closed (Going p) = cond (eqb p.row table_rows) accepted_closed (refused_at p.row)
@@ -138,14 +128,17 @@ pub record Came (before : List ℕ) (s : SheetReading) (list : List ℕ) : Type 
   pub calls : Calls opened before text s list
 
 -- the rows before the bad one, all where the sheet is accepted
+abbrev pub row_at : Numbered → ℕ
+row_at (Plain number) = 0
+row_at (At number row) = row
+
 abbrev pub rows_told : SheetAnswer → ℕ
-rows_told Good = table_rows
-rows_told (SheetRefused (Plain number)) = 0
-rows_told (SheetRefused (At number row)) = row
+rows_told (Ok u) = table_rows
+rows_told (Err r) = row_at (numbered r)
 
 -- the whole of a reading in pieces that was closed: what is told of the pieces joined, and those rows in the list, over what it held at first
 pub record PiecesRead (text before : List ℕ) (answer : SheetAnswer) (later : List ℕ) : Type 0 where
   pub form : Form text
   pub told : paper_sheet answer ≡ read_told before form
   pub rows : RowsIn text before (rows_told answer) later
-  pub whole : answer ≡ Good → later ≡ numbers_of form
+  pub whole : answer ≡ Ok tt → later ≡ numbers_of form

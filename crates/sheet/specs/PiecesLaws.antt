@@ -1,34 +1,30 @@
 -- A sheet that comes in pieces: whatever the cutting, and whatever lists of a wrong length are lent in between, the close answers as `read_sheet` does on the pieces joined
 -- (`cut_as_you_like`); more is expected exactly while a good sheet can follow; and what is over stays. Assumes nothing.
 use Rattle.std.proofs.Common.{eqb-true, ltb-true, eq-eqb, ne_eqb, sym, ◌∙◌, ap, ap₂, subst, append-nil, append_assoc, arith}
-use Rattle.std.specs.Prelude.{◌≡◌, refl, Bool, true, false, cond, List, [], ◌∷◌, ◌++◌, ℕ, ◌≤◌, ltb, eqb, length}
+use Rattle.std.specs.Prelude.{◌≡◌, refl, Bool, true, false, cond, List, [], ◌∷◌, ◌++◌, ℕ, ◌≤◌, ltb, eqb, length, Result, Ok, Err}
 use Rattle.rows.specs.Limits.{table_rows}
 use Rattle.text.specs.Fold.{run}
 use Rattle.text.specs.FoldLaws.{run_append}
 use Rattle.text.specs.Wholes.{is_digit}
 use Rattle.refusal.specs.Refusals.{first, ◌when◌, ◌at_place◌when◌}
-use Rattle.refusal.specs.declared.Refusal.TheVariants.{Plain, At}
+use Rattle.refusal.specs.declared.Refusal.{Refusal}
+use Rattle.refusal.specs.declared.Refusal.TheVariants.{Form, ListLength}
 use Rattle.sheet_text.specs.Limits.{sheet_numbers}
 use Rattle.sheet_text.specs.Text.{sheet_text, Numbers, Begins, feeds, FirstBad, RowsIn}
-use Rattle.sheet_text.specs.Machine.{start, with_digit, after, step_place, step, row_of, whole_sheet, ends_row, stored_place, stored, Filled, filled, fill_byte}
+use Rattle.sheet_text.specs.Machine.{start, with_digit, after, step_place, step, row_of, whole_sheet, ends_row, stored_place, stored, Filled, filled, fill_byte, State}
 use Rattle.sheet_text.specs.HeldLaws.{sound, same_state}
 use Rattle.sheet_text.specs.RowsLaws.{rows_in}
 use Rattle.sheet_text.specs.MachineLaws.{length_stored, other_dies, row_start, view, View, dies, digit, ends}
 use Rattle.sheet_text.specs.WholeLaws.{complete}
 use Rattle.sheet_text.specs.FirstBadLaws.{not_whole_bad, going_begins, bad_not_begins, feeds_at}
 use Rattle.sheet_text.specs.declared.Place.{Place}
-use Rattle.sheet_text.specs.declared.State.{State}
-use Rattle.sheet_text.specs.declared.State.TheVariants.{Going as At-place, Bad}
-use Rattle.sheet.specs.declared.SheetAnswer.{SheetAnswer}
-use Rattle.sheet.specs.declared.SheetAnswer.TheVariants.{Good, Refused as SheetRefused}
 use Rattle.sheet.specs.declared.pieces.SheetReading.{SheetReading}
 use Rattle.sheet.specs.declared.pieces.SheetReading.TheVariants.{Going, Refused, Accepted}
-use Rattle.sheet.specs.declared.pieces.PieceAnswer.{PieceAnswer}
-use Rattle.sheet.specs.declared.pieces.PieceAnswer.TheVariants.{Accepted as PieceAccepted, Refused as PieceRefused}
+use Rattle.sheet.specs.declared.pieces.Progress.{Progress}
 use Rattle.sheet.specs.declared.pieces.Taken.{Taken}
 use Rattle.sheet.specs.declared.pieces.Closed.{Closed}
 use Rattle.sheet.specs.Sheet.{not_long}
-use Rattle.sheet.specs.Answers.{paper_sheet, sheet_of, no_sheet, numbers_of, read_told, list_after, SheetRead}
+use Rattle.sheet.specs.Answers.{paper_sheet, sheet_of, no_sheet, numbers_of, read_told, list_after, SheetRead, SheetAnswer}
 use Rattle.sheet.specs.OneOutcome.{one_answer, one_piece_answer, one_close_reading}
 use Rattle.sheet.specs.FormLaws.{one_form}
 use Rattle.sheet.specs.Pieces.{reading_of, opened, Standing, standing, on_byte, with_byte, after_piece, after_close, is_refused, row_refused, piece_lines, progress, paper_piece}
@@ -38,11 +34,11 @@ use Rattle.sheet.specs.Pieces.{PieceRead, ReadingClosed, answer_of, refused_at, 
 machine_run : (xs : List ℕ) (s : State) (l : List ℕ)
     → run with_byte (standing (reading_of s) l) xs ≡ standing (reading_of (run fill_byte (filled s l) xs).state) (run fill_byte (filled s l) xs).list
 machine_run [] s l = refl
-machine_run (b ∷ xs) (At-place p) l = machine_run xs (step (At-place p) b) (stored (At-place p) b l)
-machine_run (b ∷ xs) (Bad r) l = machine_run xs (Bad r) l
+machine_run (b ∷ xs) (Ok p) l = machine_run xs (step (Ok p) b) (stored (Ok p) b l)
+machine_run (b ∷ xs) (Err r) l = machine_run xs (Err r) l
 
-pub fills : {s : State} {m : List ℕ} (p : Place) (xs l : List ℕ) → filled s m ≡ run fill_byte (filled (At-place p) l) xs → standing (reading_of s) m ≡ after_piece (Going p) xs l
-fills p xs l e = ap (λ (x : Filled). standing (reading_of x.state) x.list) e ∙ sym (machine_run xs (At-place p) l)
+pub fills : {s : State} {m : List ℕ} (p : Place) (xs l : List ℕ) → filled s m ≡ run fill_byte (filled (Ok p) l) xs → standing (reading_of s) m ≡ after_piece (Going p) xs l
+fills p xs l e = ap (λ (x : Filled). standing (reading_of x.state) x.list) e ∙ sym (machine_run xs (Ok p) l)
 
 -- ---- what is over stays
 pub refused_stays : (r : ℕ) (xs l : List ℕ) → after_piece (Refused r) xs l ≡ standing (Refused r) l
@@ -60,7 +56,7 @@ told_of (Going p) l n = rw (eq-eqb (length l) sheet_numbers n) refl
 told_of (Refused r) l n = rw (eq-eqb (length l) sheet_numbers n) refl
 told_of Accepted l n = rw (eq-eqb (length l) sheet_numbers n) refl
 
-pub piece_read : (s : SheetReading) (xs l : List ℕ) {t : SheetReading} {m : List ℕ} {a : PieceAnswer} → length l ≡ sheet_numbers → standing t m ≡ after_piece s xs l → a ≡ answer_of t
+pub piece_read : (s : SheetReading) (xs l : List ℕ) {t : SheetReading} {m : List ℕ} {a : Result Progress Refusal} → length l ≡ sheet_numbers → standing t m ≡ after_piece s xs l → a ≡ answer_of t
     → PieceRead s xs l (record { reading = t; answer = a }) m
 piece_read s xs l {t} {m} n e q =
     let r : t ≡ (after_piece s xs l).reading = ap (λ (x : Standing). x.reading) e in
@@ -89,7 +85,7 @@ closed_told_lem Accepted l n = let h = eq-eqb (length l) sheet_numbers n in reco
 -- ---- the law of joining: the calls of a reading come to what one piece comes to that is all of them joined; a list of a wrong length in between changes nothing
 pub piece_length : (xs : List ℕ) (s : SheetReading) (l : List ℕ) → length (after_piece s xs l).list ≡ length l
 piece_length [] s l = refl
-piece_length (b ∷ xs) (Going p) l = piece_length xs (on_byte (Going p) l b).reading (on_byte (Going p) l b).list ∙ length_stored (At-place p) b l
+piece_length (b ∷ xs) (Going p) l = piece_length xs (on_byte (Going p) l b).reading (on_byte (Going p) l b).list ∙ length_stored (Ok p) b l
 piece_length (b ∷ xs) (Refused r) l = piece_length xs (Refused r) l
 piece_length (b ∷ xs) Accepted l = piece_length xs Accepted l
 
@@ -142,8 +138,8 @@ pub more_follows : {text before list : List ℕ} {p : Place} → length before �
 more_follows {text} {before} {list} {p} h c = go (run step start text) refl (reading_is h c) (rows_are h c)
   where
     go : (x : State) → run step start text ≡ x → Going p ≡ reading_of x → RowsIn text before (row_of (run step start text)) list → Begins text × RowsIn text before (feeds text) list
-    go (At-place q) e w i = (going_begins text q e, rw (feeds_at text q e, sym (ap row_of e)) i)
-    go (Bad r) e w i = absurd (let z : ◌≡◌ {A = ℕ} 0 1 = cc in omega arith)
+    go (Ok q) e w i = (going_begins text q e, rw (feeds_at text q e, sym (ap row_of e)) i)
+    go (Err r) e w i = absurd cc
 
 -- refusal 2 comes with the byte after which none can, for the row that the byte stands in
 pub refused_decided : {text before list : List ℕ} {r : ℕ} → length before ≡ sheet_numbers → Calls opened before text (Refused r) list
@@ -151,20 +147,20 @@ pub refused_decided : {text before list : List ℕ} {r : ℕ} → length before 
 refused_decided {text} {before} {list} {r} h c = go (run step start text) refl (reading_is h c) (rows_are h c)
   where
     go : (x : State) → run step start text ≡ x → Refused r ≡ reading_of x → RowsIn text before (row_of (run step start text)) list → FirstBad text r × (Begins text → ⊥) × RowsIn text before r list
-    go (At-place q) e w i = absurd (let z : ◌≡◌ {A = ℕ} 0 1 = cc in omega arith)
-    go (Bad k) e w i =
+    go (Ok q) e w i = absurd cc
+    go (Err k) e w i =
         let q : row_of (run step start text) ≡ r = ap row_of e ∙ sym (ap row_refused w) in
         (rw q at (not_whole_bad text (ap whole_sheet e)), bad_not_begins text k e, rw q at i)
 
 -- a text that is read whole stands behind the last row
 whole_row : (x : State) → whole_sheet x ≡ true → row_of x ≡ table_rows
-whole_row (At-place p) e = eqb-true _ _ e
-whole_row (Bad r) e = absurd (let z : ◌≡◌ {A = ℕ} 0 1 = cc in omega arith)
+whole_row (Ok p) e = eqb-true _ _ e
+whole_row (Err r) e = absurd cc
 
 -- ---- and the close answers as `read_sheet` does on the text joined
 closes : (x : State) → after_close (reading_of x) ≡ cond (whole_sheet x) Accepted (Refused (row_of x))
-closes (At-place p) = refl
-closes (Bad r) = refl
+closes (Ok p) = refl
+closes (Err r) = refl
 
 pub closed_reads : {text before list : List ℕ} {s : SheetReading} {r : Closed} → length before ≡ sheet_numbers → Calls opened before text s list → ReadingClosed s list r
     → PiecesRead text before r.answer list
@@ -180,7 +176,7 @@ closed_reads {text} {before} {list} {s} {r} h c d = go (whole_sheet (run step st
     go true e =
         let l = eq-eqb (length list) sheet_numbers (list_long h c) in
         let b = eq-eqb (length before) sheet_numbers h in
-        let a : r.answer ≡ Good = one_answer r.answer Good (rw l at (told_is true e)) in
+        let a : r.answer ≡ Ok tt = one_answer r.answer (Ok tt) (rw l at (told_is true e)) in
         record {
           form = sheet_of list (rw (sym (list_is h c)) at (sound text before h e));
           told = rw (a, b) refl;
@@ -190,19 +186,19 @@ closed_reads {text} {before} {list} {s} {r} h c d = go (whole_sheet (run step st
     go false e =
         let l = eq-eqb (length list) sheet_numbers (list_long h c) in
         let b = eq-eqb (length before) sheet_numbers h in
-        let a : r.answer ≡ SheetRefused (At 2 (row_of (run step start text))) = one_answer r.answer (SheetRefused (At 2 (row_of (run step start text)))) (rw l at (told_is false e)) in
+        let a : r.answer ≡ Err (Form (row_of (run step start text))) = one_answer r.answer (Err (Form (row_of (run step start text)))) (rw l at (told_is false e)) in
         record {
           form = no_sheet (row_of (run step start text)) (not_whole_bad text e);
           told = rw (a, b) refl;
           rows = rw a (rows_are h c);
-          whole = λ q. absurd (let w : Good ≡ SheetRefused (At 2 (row_of (run step start text))) = sym q ∙ a in let z : ◌≡◌ {A = ℕ} 0 1 = cc in omega arith);
+          whole = λ q. absurd (let w : Ok tt ≡ Err (Form (row_of (run step start text))) = sym q ∙ a in cc);
         }
 
 -- for every list of pieces, whatever lists of a wrong length were lent in between: the answer at the close is that of `read_sheet` on the pieces joined, number and row included,
 -- and the list holds the rows before the bad one, all where it is accepted, over what it held at first
 pub cut_as_you_like : {text before list read : List ℕ} {s : SheetReading} {r : Closed} {a : SheetAnswer} → length before ≡ sheet_numbers
     → Calls opened before text s list → ReadingClosed s list r → SheetRead text before a read
-    → (r.answer ≡ a) × RowsIn text before (rows_told a) list × (a ≡ Good → list ≡ read)
+    → (r.answer ≡ a) × RowsIn text before (rows_told a) list × (a ≡ Ok tt → list ≡ read)
 cut_as_you_like {text} {before} {list} {read} {s} {r} {a} h c d p =
     let q = closed_reads h c d in
     let o = one_form q.form p.form in
@@ -219,15 +215,15 @@ unfolding is_digit
 return_refused p l = ap reading_of (other_dies p 13 refl (omega arith) (omega arith))
 
 -- ---- refusal 1 changes nothing, and the reading goes on as if the call had not been
-pub wrong_list : {s : SheetReading} {xs l m : List ℕ} {r : Taken} → (length l ≡ sheet_numbers → ⊥) → PieceRead s xs l r m → (r.reading ≡ s) × (r.answer ≡ PieceRefused (Plain 1)) × (m ≡ l)
+pub wrong_list : {s : SheetReading} {xs l m : List ℕ} {r : Taken} → (length l ≡ sheet_numbers → ⊥) → PieceRead s xs l r m → (r.reading ≡ s) × (r.answer ≡ Err ListLength) × (m ≡ l)
 wrong_list {l = l} {r = r} n p =
     let e = ne_eqb (length l) sheet_numbers n in
-    (rw e at p.reading, one_piece_answer r.answer (PieceRefused (Plain 1)) (rw e at p.told) refl, rw e at p.list)
+    (rw e at p.reading, one_piece_answer r.answer (Err ListLength) (rw e at p.told) refl, rw e at p.list)
 
-pub wrong_list_closed : {s : SheetReading} {l : List ℕ} {r : Closed} → (length l ≡ sheet_numbers → ⊥) → ReadingClosed s l r → (r.reading ≡ s) × (r.answer ≡ SheetRefused (Plain 1))
+pub wrong_list_closed : {s : SheetReading} {l : List ℕ} {r : Closed} → (length l ≡ sheet_numbers → ⊥) → ReadingClosed s l r → (r.reading ≡ s) × (r.answer ≡ Err ListLength)
 wrong_list_closed {l = l} {r = r} n p =
     let e = ne_eqb (length l) sheet_numbers n in
-    (rw e at p.reading, one_answer r.answer (SheetRefused (Plain 1)) (rw e at p.told))
+    (rw e at p.reading, one_answer r.answer (Err ListLength) (rw e at p.told))
 
 closed_twice : (s : SheetReading) → closed (closed s).reading ≡ closed s
 closed_twice (Going p) = go (eqb p.row table_rows)
@@ -240,27 +236,27 @@ closed_twice Accepted = refl
 
 -- ---- after refusal 2 or a close every call with a list of the right length changes nothing and repeats the answer
 module _ {l : List ℕ} (h : length l ≡ sheet_numbers) where
-  pub refused_repeats : {xs m : List ℕ} {k : ℕ} {r : Taken} → PieceRead (Refused k) xs l r m → (r.reading ≡ Refused k) × (r.answer ≡ PieceRefused (At 2 k)) × (m ≡ l)
+  pub refused_repeats : {xs m : List ℕ} {k : ℕ} {r : Taken} → PieceRead (Refused k) xs l r m → (r.reading ≡ Refused k) × (r.answer ≡ Err (Form k)) × (m ≡ l)
   refused_repeats {xs} {m} {k} {r} p =
       let e = eq-eqb (length l) sheet_numbers h in
       let q = refused_stays k xs l in
-      (rw (e, q) at p.reading, one_piece_answer r.answer (PieceRefused (At 2 k)) (rw (e, q) at p.told) refl, rw (e, q) at p.list)
+      (rw (e, q) at p.reading, one_piece_answer r.answer (Err (Form k)) (rw (e, q) at p.told) refl, rw (e, q) at p.list)
 
-  pub accepted_repeats : {xs m : List ℕ} {r : Taken} → PieceRead Accepted xs l r m → (r.reading ≡ Accepted) × (r.answer ≡ PieceAccepted) × (m ≡ l)
+  pub accepted_repeats : {xs m : List ℕ} {r : Taken} → PieceRead Accepted xs l r m → (r.reading ≡ Accepted) × (r.answer ≡ Ok Progress.Accepted) × (m ≡ l)
   accepted_repeats {xs} {m} {r} p =
       let e = eq-eqb (length l) sheet_numbers h in
       let q = accepted_stays xs l in
-      (rw (e, q) at p.reading, one_piece_answer r.answer PieceAccepted (rw (e, q) at p.told) refl, rw (e, q) at p.list)
+      (rw (e, q) at p.reading, one_piece_answer r.answer (Ok Progress.Accepted) (rw (e, q) at p.told) refl, rw (e, q) at p.list)
 
-  pub refused_closed : {k : ℕ} {r : Closed} → ReadingClosed (Refused k) l r → (r.reading ≡ Refused k) × (r.answer ≡ SheetRefused (At 2 k))
+  pub refused_closed : {k : ℕ} {r : Closed} → ReadingClosed (Refused k) l r → (r.reading ≡ Refused k) × (r.answer ≡ Err (Form k))
   refused_closed {k} {r} p =
       let e = eq-eqb (length l) sheet_numbers h in
-      (rw e at p.reading, one_answer r.answer (SheetRefused (At 2 k)) (rw e at p.told))
+      (rw e at p.reading, one_answer r.answer (Err (Form k)) (rw e at p.told))
 
-  pub accepted_closed_lem : {r : Closed} → ReadingClosed Accepted l r → (r.reading ≡ Accepted) × (r.answer ≡ Good)
+  pub accepted_closed_lem : {r : Closed} → ReadingClosed Accepted l r → (r.reading ≡ Accepted) × (r.answer ≡ Ok tt)
   accepted_closed_lem {r} p =
       let e = eq-eqb (length l) sheet_numbers h in
-      (rw e at p.reading, one_answer r.answer Good (rw e at p.told))
+      (rw e at p.reading, one_answer r.answer (Ok tt) (rw e at p.told))
 
   -- the close itself leaves a reading that is over, with the answer that it gave
   pub close_ends : {s : SheetReading} {r : Closed} → ReadingClosed s l r → r ≡ closed r.reading
@@ -269,15 +265,15 @@ module _ {l : List ℕ} (h : length l ≡ sheet_numbers) where
       e ∙ (sym (closed_twice s) ∙ ap (λ (x : Closed). closed x.reading) (sym e))
 
   -- and so does a piece that is refused with 2
-  pub refusal_ends : {s : SheetReading} {xs m : List ℕ} {k : ℕ} {r : Taken} → PieceRead s xs l r m → r.answer ≡ PieceRefused (At 2 k) → r.reading ≡ Refused k
+  pub refusal_ends : {s : SheetReading} {xs m : List ℕ} {k : ℕ} {r : Taken} → PieceRead s xs l r m → r.answer ≡ Err (Form k) → r.reading ≡ Refused k
   refusal_ends {s} {xs} {m} {k} {r} p q =
       let e = eq-eqb (length l) sheet_numbers h in
       (rw e at p.reading) ∙ told_refused (after_piece s xs l).reading (sym (ap paper_piece q) ∙ (rw e at p.told))
     where
-      told_refused : (t : SheetReading) → paper_piece (PieceRefused (At 2 k)) ≡ first (2 at_place row_refused t when is_refused t ∷ []) (progress t) → t ≡ Refused k
-      told_refused (Going x) w = absurd (let z : ◌≡◌ {A = ℕ} 0 1 = cc in omega arith)
+      told_refused : (t : SheetReading) → paper_piece (Err (Form k)) ≡ first (2 at_place row_refused t when is_refused t ∷ []) (progress t) → t ≡ Refused k
+      told_refused (Going x) w = absurd cc
       told_refused (Refused j) w = cc
-      told_refused Accepted w = absurd (let z : ◌≡◌ {A = ℕ} 0 1 = cc in omega arith)
+      told_refused Accepted w = absurd cc
 
 -- ---- the ends of a reading: closed where nothing has come it is refused at row 0, an empty piece expects more, and so does a whole sheet until the close; a byte past it is
 -- refused at row 1,801, with all rows in the list

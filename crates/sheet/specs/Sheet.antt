@@ -1,6 +1,6 @@
 -- A sheet list and its acceptance (document 01, "The gas sheet"): 5,403 numbers row by row, O2, CO2 and H2O of each kelvin from 200 to 2,000, in hundredths of
 -- C.H.U./lb above 0 K. Row r is kelvin 200 + r.
-use Rattle.std.specs.Prelude.{◌≡◌, Bool, false, not, ◌||◌, cond, List, ℕ, zero, suc, ◌+◌, ◌-◌, ◌*◌, ◌≤◌, ◌<◌, ltb, eqb, length, get_or}
+use Rattle.std.specs.Prelude.{◌≡◌, Bool, false, not, ◌||◌, cond, List, ℕ, zero, suc, ◌+◌, ◌-◌, ◌*◌, ◌≤◌, ◌<◌, ltb, eqb, length, get_or, Option, Some, None}
 use Rattle.rows.specs.Limits.{first_kelvin, last_kelvin, table_rows}
 use Rattle.rows.specs.Table.{air_h}
 use Rattle.sheet_text.specs.Limits.{most_figure, sheet_numbers}
@@ -50,6 +50,10 @@ first_from test (suc n) r = cond (test r) r (first_from test n (suc r))
 -- rows are judged in order from 0; 1,801 where none is bad
 unfoldable pub first_bad_row : List ℕ → ℕ
 first_bad_row s = first_from (bad_row s) table_rows 0
+
+-- the first bad row, where there is one
+abbrev pub bad_row_found : List ℕ → Option ℕ
+bad_row_found s = cond (ltb (first_bad_row s) table_rows) (Some (first_bad_row s)) None
 
 -- an accepted sheet passes all three: length, the 200,000 limit and the step rule
 pub record Accepted (s : List ℕ) : Type 0 where

@@ -1,5 +1,5 @@
 -- An accepted sheet: its values are at most 200,000, its columns by kelvin never fall, and O2 rises by at most four times the rise of air. Assumes nothing.
-use Rattle.std.specs.Prelude.{◌≡◌, refl, Bool, true, false, ◌||◌, cond, ◌⊎◌, List, ltb, length, get_or}
+use Rattle.std.specs.Prelude.{◌≡◌, refl, Bool, true, false, ◌||◌, cond, ◌⊎◌, List, ltb, length, get_or, Some, None}
 use Rattle.std.proofs.Common.{◌∙◌, subst, inl, inr, eq-or-lt_of_le, ltb-false, lt-ltb, le-ltb}
 use Rattle.std.proofs.Math.Bool.{or-true}
 use Prim.Native.Nat.{ℕ, zero, suc, ◌+◌, ◌*◌, ◌-◌, ◌/◌, ◌%◌, ◌≤◌, ◌<◌}
@@ -10,7 +10,7 @@ use Rattle.rows.specs.Limits.{first_kelvin, last_kelvin, table_rows}
 use Rattle.rows.specs.Table.{air_h}
 use Rattle.sheet_text.specs.Limits.{most_figure, sheet_numbers}
 use Rattle.sheet_text.specs.Text.{Numbers}
-use Rattle.sheet.specs.Sheet.{o2, co2, h2o, over_limit, falls, rise, breaks_step, KeepsStepRule, bad_row, first_from, first_bad_row, Accepted}
+use Rattle.sheet.specs.Sheet.{o2, co2, h2o, over_limit, falls, rise, breaks_step, KeepsStepRule, bad_row, first_from, first_bad_row, bad_row_found, Accepted}
 use Rattle.refusal.specs.BoolLaws.{neither}
 use Rattle.air.specs.Readings.{NeverFalls}
 
@@ -57,6 +57,20 @@ no_bad_row_lem s f = first_none (bad_row s) table_rows 0 (λ i a b. f i b)
 pub rows_before : (s : List ℕ) (r : ℕ) → r < first_bad_row s → bad_row s r ≡ false
 unfolding first_bad_row
 rows_before s r h = none_before (bad_row s) table_rows 0 r (omega arith) h
+
+pub bad_found : (s : List ℕ) (r : ℕ) → r < table_rows → bad_row s r ≡ true → ((i : ℕ) → i < r → bad_row s i ≡ false) → bad_row_found s ≡ Some r
+bad_found s r h e f = rw (first_bad_found s r h e f, lt-ltb r table_rows h) refl
+
+pub none_found : (s : List ℕ) → ((r : ℕ) → r < table_rows → bad_row s r ≡ false) → bad_row_found s ≡ None
+none_found s f = rw (no_bad_row_lem s f) refl
+
+-- and a list that is long enough, with none, is accepted
+pub none_accepted : (s : List ℕ) → length s ≡ sheet_numbers → bad_row_found s ≡ None → Accepted s
+none_accepted s n e = go (ltb (first_bad_row s) table_rows) refl e
+  where
+    go : (t : Bool) → ltb (first_bad_row s) table_rows ≡ t → cond t (Some (first_bad_row s)) None ≡ None → Accepted s
+    go true q e = cc
+    go false q e = record { long = n; no_bad_row = λ r h. rows_before s r (omega (arith, ltb-false (first_bad_row s) table_rows q)) }
 
 -- ---- a test of several parts that fails, fails in each
 pub record InLimit (s : List ℕ) (k : ℕ) : Type 0 where

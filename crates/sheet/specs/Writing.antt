@@ -1,16 +1,18 @@
 -- What the writer of a sheet tells (document 02, request 1): from a list that passes, exactly the text that the reader accepts, into a lent buffer, with the byte count,
 -- later bytes unchanged. Refusals 1 and 3 as of every call that takes a sheet list, then 14 if the buffer is shorter than the text; the buffer is unchanged by each.
-use Rattle.std.specs.Prelude.{◌≡◌, List, [], ◌∷◌, ◌++◌, ℕ, ltb, length, drop}
-use Rattle.refusal.specs.Refusals.{Told, gives, refused, Line, ◌when◌, first}
+use Rattle.std.specs.Prelude.{◌≡◌, List, [], ◌∷◌, ◌++◌, ℕ, ltb, length, drop, Result}
+use Rattle.refusal.specs.declared.Refusal.{Refusal}
+use Rattle.refusal.specs.Refusals.{Told, gives, refused, told_of, Line, ◌when◌, first}
 use Rattle.sheet_text.specs.Text.{sheet_text, text_length}
-use Rattle.sheet.specs.declared.WriteAnswer.{WriteAnswer}
-use Rattle.sheet.specs.declared.WriteAnswer.TheVariants.{Written, Refused}
 use Rattle.sheet.specs.Answers.{sheet_lines}
 
--- an answer as the paper has it: the byte count, or the refusal
+-- the byte count, or the refusal
+abbrev pub WriteAnswer : Type 0
+WriteAnswer = Result ℕ Refusal
+
+-- an answer as the paper has it
 abbrev pub paper_write : WriteAnswer → Told ℕ
-paper_write (Written n) = gives n
-paper_write (Refused r) = refused r
+paper_write = told_of
 
 -- refusals 1, 3 and 14, in the paper's order
 abbrev pub write_lines : List ℕ → List ℕ → List Line

@@ -6,88 +6,62 @@
 // its list keeps the step rule (specs/WritingLaws.antt).
 #![tactic(auto)]
 
+pub mod accepted;
 pub mod inner;
 mod judging;
 pub mod pieces;
 
 ghost use Rattle.std.specs.Prelude.{◌≡◌};
-ghost use Rattle.sheet.specs.Sheet.{Accepted};
 ghost use Rattle.sheet.specs.Answers.{SheetRead, paper_sheet, judge_told};
 ghost use Rattle.sheet.specs.Writing.{SheetWritten};
 
+pub use accepted::AcceptedSheet;
 use refusal::Refusal;
+pub use sheet_text::NUMBERS;
 use sheet_text::writing;
 
-// A good sheet, or the refusal.
-#[derive(Clone, Copy)]
-pub enum SheetAnswer {
-    Good,
-    Refused(Refusal),
-}
-
-// The bytes of the text that was written, or the refusal.
-#[derive(Clone, Copy)]
-pub enum WriteAnswer {
-    Written(usize),
-    Refused(Refusal),
-}
-
-// three numbers a row
-pub const NUMBERS: usize = 3 * rows::ROWS;
-
-// a lent sheet list is not as long as a sheet
-pub const LIST_LENGTH: u32 = 1;
-// sheet text breaks its form
-pub const FORM: u32 = 2;
-// a value over the most in a sheet list, or step rule broken
-pub const BAD_ROW: u32 = 3;
-// a lent buffer is shorter than the text
-pub const SHORT_BUFFER: u32 = 14;
-
 // Reads the text of a sheet into a list of its numbers, row by row: O2, CO2 and H2O of 200 K first.
-pub fn read_sheet(text: &[u8], list: &mut [u32]) -> SheetAnswer
+pub fn read_sheet(text: &[u8], list: &mut [u32]) -> Result<(), Refusal>
     ensures { SheetRead text.now list.old result list.new }
 {
-    if list.len() != NUMBERS {
-        return SheetAnswer::Refused(Refusal::Plain(LIST_LENGTH));
-    }
+    let Some(list) = list.as_mut_array::<NUMBERS>() else {
+        return Err(Refusal::ListLength);
+    };
     let mut numbers = [0u32; NUMBERS];
     let s = sheet_text::fill(sheet_text::start(), text, &mut numbers);
-    if sheet_text::whole_sheet(s) {
-        inner::copy(&numbers, list);
-        SheetAnswer::Good
-    } else {
-        SheetAnswer::Refused(Refusal::At(FORM, sheet_text::row_of(s)))
+    if !sheet_text::whole_sheet(s) {
+        return Err(Refusal::Form(sheet_text::row_of(s)));
     }
+    inner::copy(&numbers, list);
+    Ok(())
 }
 
 // Judges a sheet list: good where its length is 5,403 and no row is bad.
-pub fn judge_sheet(list: &[u32]) -> SheetAnswer
+pub fn judge_sheet(list: &[u32]) -> Result<(), Refusal>
     ensures { paper_sheet result ≡ judge_told list.now }
 {
-    let air = rows::columns::heat_column();
-    inner::judge(list, &air)
+    inner::judge(list, &rows::columns::heat_column())?;
+    Ok(())
 }
 
 // Writes the text of a sheet list into the buffer from its first place on, and answers its bytes.
-pub fn write_sheet(list: &[u32], buf: &mut [u8]) -> WriteAnswer
+pub fn write_sheet(list: &[u32], buf: &mut [u8]) -> Result<usize, Refusal>
     ensures { SheetWritten list.now buf.old result buf.new }
 {
-    match judge_sheet(list) {
-        SheetAnswer::Good => write_accepted(list, buf),
-        SheetAnswer::Refused(refusal) => WriteAnswer::Refused(refusal),
-    }
+    let heats = rows::columns::heat_column();
+    let sheet = inner::judge(list, &heats)?;
+    write_accepted(sheet, buf)
 }
 
 // The same of an accepted sheet. Its text is counted first, so that a buffer that is too short is left as it was.
-fn write_accepted(list: &[u32], buf: &mut [u8]) -> WriteAnswer
-    requires { Accepted list.now }
-    ensures { SheetWritten list.now buf.old result buf.new }
+#[tactic(auto, using(crate::proofs::Written::short_buffer))]
+fn write_accepted(sheet: AcceptedSheet<'_>, buf: &mut [u8]) -> Result<usize, Refusal>
+    ensures { SheetWritten sheet.entry.list.now buf.old result buf.new }
 {
-    let bytes = writing::text_length(list);
+    let bytes = writing::text_length(sheet.list);
     if buf.len() < bytes {
-        return WriteAnswer::Refused(Refusal::Plain(SHORT_BUFFER));
+        return Err(Refusal::ShortBuffer);
     }
-    writing::write_text(list, bytes, buf);
-    WriteAnswer::Written(bytes)
+    writing::write_text(sheet.list, bytes, buf);
+    Ok(bytes)
 }

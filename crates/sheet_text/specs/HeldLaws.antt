@@ -1,5 +1,5 @@
 -- What the machine has read is the text of what it holds: so a text that it takes whole is a good sheet's. Assumes nothing.
-use Rattle.std.specs.Prelude.{◌≡◌, refl, Bool, true, false, ◌&&◌, cond, List, [], ◌∷◌, ◌++◌, ℕ, zero, suc, ◌+◌, ◌*◌, ◌≤◌, ◌<◌, ltb, eqb, length, get_or, set}
+use Rattle.std.specs.Prelude.{◌≡◌, refl, Bool, true, false, ◌&&◌, cond, List, [], ◌∷◌, ◌++◌, ℕ, zero, suc, ◌+◌, ◌*◌, ◌≤◌, ◌<◌, ltb, eqb, length, get_or, set, Ok, Err}
 use Rattle.std.proofs.Common.{sym, ◌∙◌, ap, append-nil, append_assoc, add-one, arith, length-set, get_or-set_same, get_or-set_other, eqb-true, ltb-true, ltb-false, lt-ltb, le-ltb, eq-eqb, ne_eqb}
 use Rattle.std.proofs.Math.Numerals.{add-two}
 use Rattle.std.proofs.Math.ListN.{get_or-eq_default}
@@ -13,10 +13,8 @@ use Rattle.text.specs.Wholes.{may_follow}
 use Rattle.text.specs.WholesLaws.{grown, spelled, follow_some, and_left, and_right}
 use Rattle.sheet_text.specs.Limits.{most_figure, sheet_numbers}
 use Rattle.sheet_text.specs.declared.Place.{Place}
-use Rattle.sheet_text.specs.declared.State.{State}
-use Rattle.sheet_text.specs.declared.State.TheVariants.{Going, Bad}
 use Rattle.sheet_text.specs.Text.{row_text, rows_of, sheet_text, Numbers, IsSheet}
-use Rattle.sheet_text.specs.Machine.{begins, start, takes_digit, with_digit, whole, closer, after, ends_field, step, whole_sheet, ends_row, stored_place, stored, filled, fill_byte}
+use Rattle.sheet_text.specs.Machine.{begins, start, takes_digit, with_digit, whole, closer, after, ends_field, step, whole_sheet, ends_row, stored_place, stored, filled, fill_byte, State}
 use Rattle.sheet_text.specs.MachineLaws.{place, begins_some, stored_same, takes_bound, view, View, dies, digit, ends}
 
 -- ---- what the machine holds of the text
@@ -46,8 +44,8 @@ pub record Held (t : List ℕ) (p : Place) (l : List ℕ) : Type 0 where
 
 -- and where it refused the text, the rows before the bad one stand in the list
 abbrev pub HeldBy : List ℕ → State → List ℕ → Type 0
-HeldBy t (Going p) l = Held t p l
-HeldBy t (Bad r) l = (rest : List ℕ) × (t ≡ rows_of r l ++ rest)
+HeldBy t (Ok p) l = Held t p l
+HeldBy t (Err r) l = (rest : List ℕ) × (t ≡ rows_of r l ++ rest)
 
 -- ---- a digit keeps it
 takes_pos : (p : Place) (d : ℕ) → (p.field ≡ 0 → begins (first_kelvin + p.row) p.value ≡ true) → p.seen ≡ true → takes_digit p d ≡ true → 0 < p.value
@@ -73,7 +71,7 @@ held_digit t p l d o h hd e = record {
   second = o.second;
   rows = o.rows;
   last = λ q. absurd (omega arith);
-  none = λ q. let z : ◌≡◌ {A = ℕ} 0 1 = cc in absurd (omega arith);
+  none = λ q. absurd cc;
   fields = o.fields;
   kelvin = λ z s. takes_kelvin p d z e;
 }
@@ -156,7 +154,7 @@ held_feed t r n v s a b l x o h e =
       last = λ q. refl;
       none = λ q. refl;
       fields = omega arith;
-      kelvin = λ z q. let w : ◌≡◌ {A = ℕ} 0 1 = cc in absurd (omega arith);
+      kelvin = λ z q. absurd cc;
     }
 
 -- the start of a field after the first
@@ -203,8 +201,8 @@ rest_more : {t : List ℕ} (rows rest : List ℕ) (b : ℕ) → t ≡ rows ++ re
 rest_more rows rest b e = ap (λ (x : List ℕ). x ++ (b ∷ [])) e ∙ append_assoc rows rest (b ∷ [])
 
 pub held_step : (t : List ℕ) (s : State) (l : List ℕ) (b : ℕ) → HeldBy t s l → HeldBy (t ++ (b ∷ [])) (step s b) (stored s b l)
-held_step t (Bad r) l b o = (o.0 ++ (b ∷ []), rest_more (rows_of r l) o.0 b o.1)
-held_step t (Going p) l b o = go (view p b l)
+held_step t (Err r) l b o = (o.0 ++ (b ∷ []), rest_more (rows_of r l) o.0 b o.1)
+held_step t (Ok p) l b o = go (view p b l)
   where
     go : {s : State} {m : List ℕ} → View p b l s m → HeldBy (t ++ (b ∷ [])) s m
     go dies = (sofar p ++ (b ∷ []), rest_more (rows_of p.row l) (sofar p) b o.text)
@@ -232,7 +230,7 @@ held_start l h = record {
   last = λ q. refl;
   none = λ q. refl;
   fields = omega arith;
-  kelvin = λ z q. let w : ◌≡◌ {A = ℕ} 0 1 = cc in absurd (omega arith);
+  kelvin = λ z q. absurd cc;
 }
 
 pub held_text : (text l : List ℕ) → length l ≡ sheet_numbers → HeldBy text (run step start text) (run fill_byte (filled start l) text).list
@@ -257,7 +255,7 @@ unfolding sheet_text
 sound text l h w = go (run step start text) (run fill_byte (filled start l) text).list w (held_text text l h)
   where
     go : (s : State) (m : List ℕ) → whole_sheet s ≡ true → HeldBy text s m → IsSheet text m
-    go (Bad r) m w o = let z : ◌≡◌ {A = ℕ} 0 1 = cc in absurd (omega arith)
-    go (Going p) m w o =
+    go (Err r) m w o = absurd cc
+    go (Ok p) m w o =
         let e : p.row ≡ table_rows = eqb-true _ _ w in
         record { good = good_of text p m e o; is = whole_text_lem table_rows p.row text m (sofar p) e (o.last e) o.text }

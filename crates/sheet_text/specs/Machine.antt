@@ -1,16 +1,18 @@
 -- The reader's machine, byte by byte: where in the sheet it stands, and what a byte does there. Contracts inside the crate cite it; that it means the form
 -- of Text.antt is proved in HeldLaws.antt, WholeLaws.antt and FirstBadLaws.antt.
-use Rattle.std.specs.Prelude.{ℕ, ◌+◌, ◌*◌, ◌-◌, ◌/◌, Bool, true, false, not, ◌&&◌, ◌||◌, cond, List, [], ◌∷◌, ltb, eqb}
+use Rattle.std.specs.Prelude.{ℕ, ◌+◌, ◌*◌, ◌-◌, ◌/◌, Bool, true, false, not, ◌&&◌, ◌||◌, cond, List, [], ◌∷◌, ltb, eqb, Result, Ok, Err}
 use Rattle.std.proofs.lemmas.List.Edits.{sets}
 use Rattle.rows.specs.Limits.{first_kelvin, table_rows}
 use Rattle.text.specs.Wholes.{is_digit, may_follow}
 use Rattle.sheet_text.specs.Limits.{most_figure}
 use Rattle.sheet_text.specs.declared.Place.{Place}
-use Rattle.sheet_text.specs.declared.State.{State}
-use Rattle.sheet_text.specs.declared.State.TheVariants.{Going, Bad}
+
+-- a place from which a good sheet can follow, or the row of the byte after which none can
+abbrev pub State : Type 0
+State = Result Place ℕ
 
 abbrev pub start : State
-start = Going (record { row = 0; field = 0; value = 0; seen = false; first = 0; second = 0 })
+start = Ok (record { row = 0; field = 0; value = 0; seen = false; first = 0; second = 0 })
 
 -- the digits of v begin those of k, a number of at most four digits
 unfoldable pub begins : ℕ → ℕ → Bool
@@ -46,31 +48,31 @@ after p =
     (record { row = p.row + 1; field = 0; value = 0; seen = false; first = 0; second = 0 })
 
 unfoldable pub step_digit : Place → ℕ → State
-step_digit p d = cond (takes_digit p d) (Going (with_digit p d)) (Bad p.row)
+step_digit p d = cond (takes_digit p d) (Ok (with_digit p d)) (Err p.row)
 
 unfoldable pub ends_field : Place → ℕ → Bool
 ends_field p b = eqb b (closer p) && whole p
 
 unfoldable pub step_end : Place → ℕ → State
-step_end p b = cond (ends_field p b) (Going (after p)) (Bad p.row)
+step_end p b = cond (ends_field p b) (Ok (after p)) (Err p.row)
 
 unfoldable pub step_place : Place → ℕ → State
-step_place p b = cond (ltb p.row table_rows) (cond (is_digit b) (step_digit p (b - 48)) (step_end p b)) (Bad p.row)
+step_place p b = cond (ltb p.row table_rows) (cond (is_digit b) (step_digit p (b - 48)) (step_end p b)) (Err p.row)
 
 -- one byte more. A bad row stays
 abbrev pub step : State → ℕ → State
-step (Going p) b = step_place p b
-step (Bad r) b = Bad r
+step (Ok p) b = step_place p b
+step (Err r) b = Err r
 
 -- the row that the machine stands in, or died in
 abbrev pub row_of : State → ℕ
-row_of (Going p) = p.row
-row_of (Bad r) = r
+row_of (Ok p) = p.row
+row_of (Err r) = r
 
 -- all rows read, and nothing after
 abbrev pub whole_sheet : State → Bool
-whole_sheet (Going p) = eqb p.row table_rows
-whole_sheet (Bad r) = false
+whole_sheet (Ok p) = eqb p.row table_rows
+whole_sheet (Err r) = false
 
 -- does the byte end a row?
 unfoldable pub ends_row : Place → ℕ → Bool
@@ -81,8 +83,8 @@ unfoldable pub stored_place : Place → ℕ → List ℕ → List ℕ
 stored_place p b l = cond (ends_row p b) (sets l (3 * p.row) (p.first ∷ p.second ∷ p.value ∷ [])) l
 
 abbrev pub stored : State → ℕ → List ℕ → List ℕ
-stored (Going p) b l = stored_place p b l
-stored (Bad r) b l = l
+stored (Ok p) b l = stored_place p b l
+stored (Err r) b l = l
 
 -- the machine and the list that it fills, as one state
 pub record Filled : Type 0 where

@@ -1,5 +1,5 @@
 -- The machine's tests: what a test that passed says of its numbers, and what a byte does at a place. Assumes nothing.
-use Rattle.std.specs.Prelude.{◌≡◌, refl, Bool, true, false, not, ◌&&◌, ◌||◌, cond, ◌⊎◌, List, [], ◌∷◌, ℕ, ◌+◌, ◌*◌, ◌-◌, ◌/◌, ◌≤◌, ◌<◌, ltb, eqb, length}
+use Rattle.std.specs.Prelude.{◌≡◌, refl, Bool, true, false, not, ◌&&◌, ◌||◌, cond, ◌⊎◌, List, [], ◌∷◌, ℕ, ◌+◌, ◌*◌, ◌-◌, ◌/◌, ◌≤◌, ◌<◌, ltb, eqb, length, Ok, Err}
 use Rattle.std.proofs.Math.Bool.{or-true}
 use Rattle.std.proofs.Common.{inl, inr, ⊎_elim, arith}
 use Rattle.std.proofs.lemmas.List.Edits.{sets}
@@ -10,16 +10,14 @@ use Rattle.text.specs.Wholes.{is_digit, may_follow}
 use Rattle.text.specs.WholesLaws.{digit_range, follow_most, and_left, and_right}
 use Rattle.sheet_text.specs.Limits.{most_figure}
 use Rattle.sheet_text.specs.declared.Place.{Place}
-use Rattle.sheet_text.specs.declared.State.{State}
-use Rattle.sheet_text.specs.declared.State.TheVariants.{Going, Bad}
-use Rattle.sheet_text.specs.Machine.{begins, takes_digit, with_digit, whole, closer, after, step_digit, ends_field, step_end, step_place, ends_row, stored_place, stored}
+use Rattle.sheet_text.specs.Machine.{begins, takes_digit, with_digit, whole, closer, after, step_digit, ends_field, step_end, step_place, ends_row, stored_place, stored, State}
 
 -- a place, and the start of a row
 abbrev pub place : ℕ → ℕ → ℕ → Bool → ℕ → ℕ → Place
 place r f v s a b = record { row = r; field = f; value = v; seen = s; first = a; second = b }
 
 abbrev pub row_start : ℕ → State
-row_start r = Going (place r 0 0 false 0 0)
+row_start r = Ok (place r 0 0 false 0 0)
 
 -- ---- the kelvin: a number whose digits begin those of k is k without its last 0, 1, 2 or 3 digits
 or_cases : (a b : Bool) → (a || b) ≡ true → (a ≡ true) ⊎ (b ≡ true)
@@ -74,18 +72,18 @@ row_bound p b e = ltb-true p.row table_rows (and_left _ _ e)
 
 pub length_stored : (s : State) (b : ℕ) (l : List ℕ) → length (stored s b l) ≡ length l
 unfolding stored_place
-length_stored (Going p) b l = go (ends_row p b)
+length_stored (Ok p) b l = go (ends_row p b)
   where
     go : (z : Bool) → length (cond z (sets l (3 * p.row) (p.first ∷ p.second ∷ p.value ∷ [])) l) ≡ length l
     go true = length-sets l (3 * p.row) (p.first ∷ p.second ∷ p.value ∷ [])
     go false = refl
-length_stored (Bad r) b l = refl
+length_stored (Err r) b l = refl
 
 -- ---- what a byte does at a place: it is refused, or it is a digit that may follow, or it ends the field
 pub data View (p : Place) (b : ℕ) (l : List ℕ) : State → List ℕ → Type 0 where
-  dies : View p b l (Bad p.row) l
-  digit : (d : ℕ) → b ≡ 48 + d → d < 10 → p.row < table_rows → takes_digit p d ≡ true → View p b l (Going (with_digit p d)) l
-  ends : p.row < table_rows → ends_field p b ≡ true → View p b l (Going (after p)) (stored_place p b l)
+  dies : View p b l (Err p.row) l
+  digit : (d : ℕ) → b ≡ 48 + d → d < 10 → p.row < table_rows → takes_digit p d ≡ true → View p b l (Ok (with_digit p d)) l
+  ends : p.row < table_rows → ends_field p b ≡ true → View p b l (Ok (after p)) (stored_place p b l)
 
 pub stored_same : (p : Place) (b : ℕ) (l : List ℕ) → p.row < table_rows → (b ≡ 10 → ⊥) → stored_place p b l ≡ l
 unfolding stored_place ends_row
@@ -109,7 +107,7 @@ unfolding stored_place
 stored_dead p b l e = go (ends_row p b) refl
   where
     go : (z : Bool) → ends_row p b ≡ z → cond z (sets l (3 * p.row) (p.first ∷ p.second ∷ p.value ∷ [])) l ≡ l
-    go true k = let q : ends_field p b ≡ true = row_ends_field p b k in let z : ◌≡◌ {A = ℕ} 0 1 = cc in absurd (omega arith)
+    go true k = let q : ends_field p b ≡ true = row_ends_field p b k in absurd cc
     go false k = refl
 
 stored_late : (p : Place) (b : ℕ) (l : List ℕ) → ltb p.row table_rows ≡ false → stored_place p b l ≡ l
@@ -121,7 +119,7 @@ unfolding step_place step_digit step_end
 view p b l = go (ltb p.row table_rows) (is_digit b) (takes_digit p (b - 48)) (ends_field p b) refl refl refl refl
   where
     go : (x y z w : Bool) → ltb p.row table_rows ≡ x → is_digit b ≡ y → takes_digit p (b - 48) ≡ z → ends_field p b ≡ w
-        → View p b l (cond x (cond y (cond z (Going (with_digit p (b - 48))) (Bad p.row)) (cond w (Going (after p)) (Bad p.row))) (Bad p.row)) (stored_place p b l)
+        → View p b l (cond x (cond y (cond z (Ok (with_digit p (b - 48))) (Err p.row)) (cond w (Ok (after p)) (Err p.row))) (Err p.row)) (stored_place p b l)
     go false y z w ex ey ez ew = rw (stored_late p b l ex) dies
     go true true true w ex ey ez ew =
         let h : p.row < table_rows = ltb-true _ _ ex in
@@ -135,11 +133,11 @@ view p b l = go (ltb p.row table_rows) (is_digit b) (takes_digit p (b - 48)) (en
     go true false z false ex ey ez ew = rw (stored_dead p b l ew) dies
 
 -- a byte that is no digit, no tab and no line feed is refused wherever it stands
-pub other_dies : (p : Place) (b : ℕ) → is_digit b ≡ false → (b ≡ 9 → ⊥) → (b ≡ 10 → ⊥) → step_place p b ≡ Bad p.row
+pub other_dies : (p : Place) (b : ℕ) → is_digit b ≡ false → (b ≡ 9 → ⊥) → (b ≡ 10 → ⊥) → step_place p b ≡ Err p.row
 unfolding step_place step_end ends_field closer
 other_dies p b d n m = go (ltb p.row table_rows) (ltb p.field 3)
   where
-    go : (x y : Bool) → cond x (cond (is_digit b) (step_digit p (b - 48)) (cond (eqb b (cond y 9 10) && whole p) (Going (after p)) (Bad p.row))) (Bad p.row) ≡ Bad p.row
+    go : (x y : Bool) → cond x (cond (is_digit b) (step_digit p (b - 48)) (cond (eqb b (cond y 9 10) && whole p) (Ok (after p)) (Err p.row))) (Err p.row) ≡ Err p.row
     go false y = refl
     go true true = rw (d, ne_eqb b 9 n) refl
     go true false = rw (d, ne_eqb b 10 m) refl

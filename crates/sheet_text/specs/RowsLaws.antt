@@ -1,5 +1,5 @@
 -- The list that the machine fills: the rows before the one that it stands in, or died in, and no other place. Assumes nothing.
-use Rattle.std.specs.Prelude.{◌≡◌, refl, Bool, true, false, cond, List, [], ◌∷◌, ◌++◌, ℕ, suc, ◌+◌, ◌*◌, ◌≤◌, ltb, eqb, length, get_or, set}
+use Rattle.std.specs.Prelude.{◌≡◌, refl, Bool, true, false, cond, List, [], ◌∷◌, ◌++◌, ℕ, suc, ◌+◌, ◌*◌, ◌≤◌, ltb, eqb, length, get_or, set, Ok, Err}
 use Rattle.std.proofs.Common.{◌∙◌, arith, get_or-set_other}
 use Rattle.std.proofs.lemmas.List.Edits.{sets}
 use Rattle.std.proofs.lemmas.Bool.{not-true}
@@ -8,10 +8,8 @@ use Rattle.text.specs.Fold.{run}
 use Rattle.text.specs.WholesLaws.{and_left, and_right}
 use Rattle.sheet_text.specs.Limits.{sheet_numbers}
 use Rattle.sheet_text.specs.declared.Place.{Place}
-use Rattle.sheet_text.specs.declared.State.{State}
-use Rattle.sheet_text.specs.declared.State.TheVariants.{Going, Bad}
 use Rattle.sheet_text.specs.Text.{rows_of, RowsIn}
-use Rattle.sheet_text.specs.Machine.{start, with_digit, after, step, row_of, ends_row, stored_place, stored, filled, fill_byte}
+use Rattle.sheet_text.specs.Machine.{start, with_digit, after, step, row_of, ends_row, stored_place, stored, filled, fill_byte, State}
 use Rattle.sheet_text.specs.MachineLaws.{length_stored, view, View, dies, digit, ends}
 use Rattle.sheet_text.specs.HeldLaws.{HeldBy, held_text, same_state}
 
@@ -54,8 +52,8 @@ record Kept (r : ℕ) (l : List ℕ) (s : State) (m : List ℕ) : Type 0 where
 
 step_keeps : (s : State) (b : ℕ) (l : List ℕ) → Kept (row_of s) l (step s b) (stored s b l)
 unfolding with_digit
-step_keeps (Bad r) b l = record { on = omega arith; others = λ i h. refl }
-step_keeps (Going p) b l = go (view p b l)
+step_keeps (Err r) b l = record { on = omega arith; others = λ i h. refl }
+step_keeps (Ok p) b l = go (view p b l)
   where
     go : {s : State} {m : List ℕ} → View p b l s m → Kept p.row l s m
     go dies = record { on = omega arith; others = λ i h. refl }
@@ -75,8 +73,8 @@ run_length (b ∷ xs) s l = run_length xs (step s b) (stored s b l) ∙ length_s
 
 -- ---- so the list holds the rows before the one at hand, or before the bad one, over what it held at first
 rest_of : (t : List ℕ) (s : State) (m : List ℕ) → HeldBy t s m → (rest : List ℕ) × (t ≡ rows_of (row_of s) m ++ rest)
-rest_of t (Going p) m o = (_, o.text)
-rest_of t (Bad r) m o = o
+rest_of t (Ok p) m o = (_, o.text)
+rest_of t (Err r) m o = o
 
 pub rows_in : (text l : List ℕ) → length l ≡ sheet_numbers → RowsIn text l (row_of (run step start text)) (run fill_byte (filled start l) text).list
 rows_in text l h =

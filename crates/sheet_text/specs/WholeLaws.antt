@@ -1,5 +1,5 @@
 -- A good sheet's text is read whole, to its own numbers. Assumes nothing.
-use Rattle.std.specs.Prelude.{◌≡◌, refl, Bool, true, false, List, [], ◌∷◌, ◌++◌, ℕ, zero, suc, ◌+◌, ◌*◌, ◌-◌, ◌/◌, ◌%◌, ◌≤◌, ◌<◌, length, get_or, take, drop, set}
+use Rattle.std.specs.Prelude.{◌≡◌, refl, Bool, true, false, List, [], ◌∷◌, ◌++◌, ℕ, zero, suc, ◌+◌, ◌*◌, ◌-◌, ◌/◌, ◌%◌, ◌≤◌, ◌<◌, length, get_or, take, drop, set, Ok}
 use Rattle.std.proofs.Common.{sym, ◌∙◌, ap, append-nil, add-one, arith, drop_of_length-le, drop-cons, take-suc, length-take-le, take_all}
 use Rattle.std.proofs.Math.Numerals.{add-two}
 use Rattle.std.proofs.lemmas.List.Edits.{sets}
@@ -15,7 +15,6 @@ use Rattle.text.specs.Wholes.{is_digit}
 use Rattle.text.specs.WholesLaws.{first_follows, next_follows, is_digit_lem}
 use Rattle.sheet_text.specs.Limits.{most_figure, sheet_numbers}
 use Rattle.sheet_text.specs.declared.Place.{Place}
-use Rattle.sheet_text.specs.declared.State.TheVariants.{Going}
 use Rattle.sheet_text.specs.Text.{row_text, rows_of, sheet_text, Numbers}
 use Rattle.sheet_text.specs.Machine.{begins, start, takes_digit, with_digit, whole, closer, after, step_digit, ends_field, step_end, step_place, ends_row, stored_place, filled, fill_byte}
 use Rattle.sheet_text.specs.MachineLaws.{place, row_start, begins_cases, begins_0, begins_1, begins_2, begins_3}
@@ -25,7 +24,7 @@ abbrev at : Place → ℕ → Bool → Place
 at p v s = place p.row p.field v s p.first p.second
 
 -- a digit that may follow
-pub digit_step : (p : Place) (d : ℕ) (l : List ℕ) → p.row < table_rows → d < 10 → takes_digit p d ≡ true → fill_byte (filled (Going p) l) (48 + d) ≡ filled (Going (with_digit p d)) l
+pub digit_step : (p : Place) (d : ℕ) (l : List ℕ) → p.row < table_rows → d < 10 → takes_digit p d ≡ true → fill_byte (filled (Ok p) l) (48 + d) ≡ filled (Ok (with_digit p d)) l
 unfolding step_place step_digit stored_place ends_row
 digit_step p d l h hd t =
     let e : 48 + d - 48 ≡ d = omega arith in
@@ -33,16 +32,16 @@ digit_step p d l h hd t =
 
 -- the same, to the number that the digit makes
 digit_to : (p : Place) (d : ℕ) (l : List ℕ) (n : ℕ) → p.row < table_rows → d < 10 → takes_digit p d ≡ true → 10 * p.value + d ≡ n
-    → fill_byte (filled (Going p) l) (48 + d) ≡ filled (Going (at p n true)) l
+    → fill_byte (filled (Ok p) l) (48 + d) ≡ filled (Ok (at p n true)) l
 unfolding with_digit
-digit_to p d l n h hd t e = digit_step p d l h hd t ∙ ap (λ (v : ℕ). filled (Going (at p v true)) l) e
+digit_to p d l n h hd t e = digit_step p d l h hd t ∙ ap (λ (v : ℕ). filled (Ok (at p v true)) l) e
 
 -- a number field
 pub number_run : (r f a b n : ℕ) (l : List ℕ) → r < table_rows → (f ≡ 0 → ⊥) → n ≤ most_figure
-    → Runs fill_byte (filled (Going (place r f 0 false a b)) l) (decimal n) (filled (Going (place r f n true a b)) l)
+    → Runs fill_byte (filled (Ok (place r f 0 false a b)) l) (decimal n) (filled (Ok (place r f n true a b)) l)
 unfolding takes_digit
 number_run r f a b n l h hf hn =
-    digits_run fill_byte (λ v s. filled (Going (place r f v s a b)) l) (λ n. n ≤ most_figure)
+    digits_run fill_byte (λ v s. filled (Ok (place r f v s a b)) l) (λ n. n ≤ most_figure)
     (λ d hd q. digit_to (place r f 0 false a b) d l d h hd (simp (ne_eqb f 0 hf) (first_follows most_figure d q)) (omega arith))
     (λ n hn q. digit_to (place r f (n / 10) true a b) (n % 10) l n h (omega arith) (simp (ne_eqb f 0 hf) (next_follows most_figure n hn q)) (omega arith))
     (λ n hn q. omega arith) n hn
@@ -57,29 +56,29 @@ begins_down k v hk h e =
     (λ q. absurd (omega arith))
 
 pub kelvin_run : (r a b : ℕ) (l : List ℕ) → r < table_rows
-    → Runs fill_byte (filled (Going (place r 0 0 false a b)) l) (decimal (first_kelvin + r)) (filled (Going (place r 0 (first_kelvin + r) true a b)) l)
+    → Runs fill_byte (filled (Ok (place r 0 0 false a b)) l) (decimal (first_kelvin + r)) (filled (Ok (place r 0 (first_kelvin + r) true a b)) l)
 unfolding takes_digit
 kelvin_run r a b l h =
-    digits_run fill_byte (λ v s. filled (Going (place r 0 v s a b)) l) (λ n. begins (first_kelvin + r) n ≡ true)
+    digits_run fill_byte (λ v s. filled (Ok (place r 0 v s a b)) l) (λ n. begins (first_kelvin + r) n ≡ true)
     (λ d hd q. let e : 10 * 0 + d ≡ d = omega arith in digit_to (place r 0 0 false a b) d l d h hd (rw e q) e)
     (λ n hn q. let e : 10 * (n / 10) + n % 10 ≡ n = omega arith in digit_to (place r 0 (n / 10) true a b) (n % 10) l n h (omega arith) (rw e q) e)
     (λ n hn q. begins_down (first_kelvin + r) n (omega arith) hn q) (first_kelvin + r) (begins_0 (first_kelvin + r) (first_kelvin + r) (omega arith) refl)
 
 -- a row: its tabs and its line feed, then all of it
 module _ (r : ℕ) (l : List ℕ) (h : r < table_rows) where
-  pub tab_0 : (a b : ℕ) → Runs fill_byte (filled (Going (place r 0 (first_kelvin + r) true a b)) l) (9 ∷ []) (filled (Going (place r 1 0 false a b)) l)
+  pub tab_0 : (a b : ℕ) → Runs fill_byte (filled (Ok (place r 0 (first_kelvin + r) true a b)) l) (9 ∷ []) (filled (Ok (place r 1 0 false a b)) l)
   unfolding step_place step_end ends_field closer whole after stored_place ends_row is_digit
   tab_0 a b = record { to = simp (lt-ltb r table_rows h, eq-eqb (first_kelvin + r) (first_kelvin + r) refl) }
 
-  pub tab_1 : (v a b : ℕ) → Runs fill_byte (filled (Going (place r 1 v true a b)) l) (9 ∷ []) (filled (Going (place r 2 0 false v b)) l)
+  pub tab_1 : (v a b : ℕ) → Runs fill_byte (filled (Ok (place r 1 v true a b)) l) (9 ∷ []) (filled (Ok (place r 2 0 false v b)) l)
   unfolding step_place step_end ends_field closer whole after stored_place ends_row is_digit
   tab_1 v a b = record { to = simp (lt-ltb r table_rows h) }
 
-  pub tab_2 : (v a b : ℕ) → Runs fill_byte (filled (Going (place r 2 v true a b)) l) (9 ∷ []) (filled (Going (place r 3 0 false a v)) l)
+  pub tab_2 : (v a b : ℕ) → Runs fill_byte (filled (Ok (place r 2 v true a b)) l) (9 ∷ []) (filled (Ok (place r 3 0 false a v)) l)
   unfolding step_place step_end ends_field closer whole after stored_place ends_row is_digit
   tab_2 v a b = record { to = simp (lt-ltb r table_rows h) }
 
-  pub feed_3 : (a b c : ℕ) → Runs fill_byte (filled (Going (place r 3 c true a b)) l) (10 ∷ []) (filled (row_start (r + 1)) (sets l (3 * r) (a ∷ b ∷ c ∷ [])))
+  pub feed_3 : (a b c : ℕ) → Runs fill_byte (filled (Ok (place r 3 c true a b)) l) (10 ∷ []) (filled (row_start (r + 1)) (sets l (3 * r) (a ∷ b ∷ c ∷ [])))
   unfolding step_place step_end ends_field closer whole after stored_place ends_row is_digit
   feed_3 a b c = record { to = simp (lt-ltb r table_rows h) }
 

@@ -5,22 +5,25 @@
 
 pub mod writing;
 
-ghost use Rattle.std.specs.Prelude.{◌≡◌, Bool, cond, ◌+◌, ◌*◌, ◌<◌, length};
+ghost use Rattle.std.specs.Prelude.{◌≡◌, Ok, ◌+◌, ◌*◌, ◌<◌};
 ghost use Rattle.rows.specs.Limits.{table_rows};
 ghost use Rattle.text.specs.Fold.{run};
-ghost use Rattle.sheet_text.specs.Limits.{sheet_numbers};
 ghost use Rattle.sheet_text.specs.Machine.{begins as Machine·begins, takes_digit, with_digit, whole as Machine·whole, closer as Machine·closer, after as Machine·after, step_digit, ends_field, step_end, step_place, start as Machine·start, row_of, whole_sheet, ends_row, stored_place, filled, fill_byte};
 
 // the rows of a sheet, as a row is counted, and the kelvin of the first
 pub const ROWS: u32 = rows::ROWS as u32;
 
 const FIRST_KELVIN: u32 = rows::FIRST_KELVIN as u32;
+
+// the numbers of a sheet list, three a row
+pub const NUMBERS: usize = 3 * rows::ROWS;
 // no value is over it
 pub const MOST_FIGURE: u64 = 200000;
 // no text of a sheet has more bytes
 pub const MOST_TEXT: usize = 46026;
 
 // Where the reader stands: the row, the field in it, the number so far and whether it has a digit, and the row's first two numbers.
+// stays: the number beside the flag that it has a digit, where an Option would be both: the C interface hands these fields out and in (`telling::pieces`).
 #[derive(Clone, Copy)]
 pub struct Place {
     pub row: u32,
@@ -31,152 +34,127 @@ pub struct Place {
     pub second: u32,
 }
 
-// A place from which a good sheet can follow, or the row of the byte after which none can.
-#[derive(Clone, Copy)]
-pub enum State {
-    Going(Place),
-    Bad(u32),
-}
-
 // Whether the digits of v begin those of the kelvin k.
+#[tactic(auto, unfolding(crate::specs::Machine::begins))]
 fn begins(k: u64, v: u64) -> bool
     ensures { result ≡ Machine·begins k v }
 {
-    if v == 0 {
-        return false;
-    }
-    if v == k {
-        return true;
-    }
-    if v == k / 10 {
-        return true;
-    }
-    if v == k / 100 {
-        return true;
-    }
-    v == k / 1000
+    v > 0 && (v == k || v == k / 10 || v == k / 100 || v == k / 1000)
 }
 
 // Whether the digit d may follow in the field at hand.
+#[tactic(auto, unfolding(crate::specs::Machine::takes_digit))]
 fn takes_digit(p: Place, d: u8) -> bool
-    requires { p.row < table_rows }
     ensures { result ≡ takes_digit p d }
 {
     if p.field == 0 {
         begins(
-            rows::FIRST_KELVIN + p.row as u64,
-            10 * (p.value as u64) + (d as u64),
+            rows::FIRST_KELVIN + u64::from(p.row),
+            10 * u64::from(p.value) + u64::from(d),
         )
     } else {
-        text::may_follow(MOST_FIGURE, p.seen, p.value as u64, d)
+        text::may_follow(MOST_FIGURE, p.seen, u64::from(p.value), d)
     }
 }
 
 // The place after the digit d.
+#[tactic(auto, unfolding(crate::specs::Machine::with_digit))]
 fn with_digit(p: Place, d: u8) -> Place
     requires { 10 * p.value + d < 4294967296 }
     ensures { result ≡ with_digit p d }
 {
     Place {
-        row: p.row,
-        field: p.field,
-        value: 10 * p.value + d as u32,
+        value: 10 * p.value + u32::from(d),
         seen: true,
-        first: p.first,
-        second: p.second,
+        ..p
     }
 }
 
 // Whether the field at hand may end here.
+#[tactic(auto, unfolding(crate::specs::Machine::whole))]
 fn whole(p: Place) -> bool
-    requires { p.row < table_rows }
     ensures { result ≡ Machine·whole p }
 {
     if p.field == 0 {
-        p.value == FIRST_KELVIN + p.row
+        u64::from(p.value) == rows::FIRST_KELVIN + u64::from(p.row)
     } else {
         p.seen
     }
 }
 
 // The byte that ends the field at hand.
+#[tactic(auto, unfolding(crate::specs::Machine::closer))]
 fn closer(p: Place) -> u8
     ensures { result ≡ Machine·closer p }
 {
     if p.field < 3 { 9 } else { 10 }
 }
 
-// a where c holds, else b.
-fn choose(c: bool, a: u32, b: u32) -> u32
-    ensures { result ≡ cond c a b }
-{
-    if c { a } else { b }
-}
-
 // The place after the end of the field at hand.
+// stays: that the row is one of the table is asked here and of the two steps below, where a struct around the place would be no plainer.
+#[tactic(auto, unfolding(crate::specs::Machine::after))]
 fn after(p: Place) -> Place
     requires { p.row < table_rows }
     ensures { result ≡ Machine·after p }
 {
     if p.field < 3 {
         Place {
-            row: p.row,
             field: p.field + 1,
             value: 0,
             seen: false,
-            first: choose(p.field == 1, p.value, p.first),
-            second: choose(p.field == 2, p.value, p.second),
+            first: if p.field == 1 { p.value } else { p.first },
+            second: if p.field == 2 { p.value } else { p.second },
+            ..p
         }
     } else {
         Place {
             row: p.row + 1,
-            field: 0,
-            value: 0,
-            seen: false,
-            first: 0,
-            second: 0,
+            ..start()
         }
     }
 }
 
-// The state after a digit.
-fn step_digit(p: Place, d: u8) -> State
+// The place after a digit, or the row where none may follow.
+#[tactic(auto, using(crate::specs::MachineLaws::takes_bound), unfolding(crate::specs::Machine::step_digit))]
+fn step_digit(p: Place, d: u8) -> Result<Place, u32>
     requires { p.row < table_rows }
     ensures { result ≡ step_digit p d }
 {
     if takes_digit(p, d) {
-        State::Going(with_digit(p, d))
+        Ok(with_digit(p, d))
     } else {
-        State::Bad(p.row)
+        Err(p.row)
     }
 }
 
 // Whether the byte ends the field at hand.
+#[tactic(auto, unfolding(crate::specs::Machine::ends_field))]
 fn ends_field(p: Place, b: u8) -> bool
-    requires { p.row < table_rows }
     ensures { result ≡ ends_field p b }
 {
-    if b == closer(p) { whole(p) } else { false }
+    b == closer(p) && whole(p)
 }
 
-// The state after a byte that is no digit.
-fn step_end(p: Place, b: u8) -> State
+// The place after a byte that is no digit, or the row where it ends no field.
+#[tactic(auto, unfolding(crate::specs::Machine::step_end))]
+fn step_end(p: Place, b: u8) -> Result<Place, u32>
     requires { p.row < table_rows }
     ensures { result ≡ step_end p b }
 {
     if ends_field(p, b) {
-        State::Going(after(p))
+        Ok(after(p))
     } else {
-        State::Bad(p.row)
+        Err(p.row)
     }
 }
 
-// The state after a byte, from a place.
-fn step_place(p: Place, b: u8) -> State
+// The place after a byte, or the row of the byte where no good sheet can follow.
+#[tactic(auto, using(text::specs::WholesLaws::digit_range), unfolding(crate::specs::Machine::step_place))]
+fn step_place(p: Place, b: u8) -> Result<Place, u32>
     ensures { result ≡ step_place p b }
 {
     if p.row >= ROWS {
-        return State::Bad(p.row);
+        return Err(p.row);
     }
     if text::is_digit(b) {
         step_digit(p, b - 48)
@@ -187,7 +165,7 @@ fn step_place(p: Place, b: u8) -> State
 
 // The place before the first byte.
 pub fn start() -> Place
-    ensures { State.Going result ≡ Machine·start }
+    ensures { Ok result ≡ Machine·start }
 {
     Place {
         row: 0,
@@ -200,44 +178,36 @@ pub fn start() -> Place
 }
 
 // Whether all rows are read, and nothing after.
-pub fn whole_sheet(s: State) -> bool
+pub fn whole_sheet(s: Result<Place, u32>) -> bool
     ensures { result ≡ whole_sheet s }
 {
     match s {
-        State::Going(p) => p.row == ROWS,
-        State::Bad(_) => false,
+        Ok(p) => p.row == ROWS,
+        Err(_) => false,
     }
 }
 
-// The row of the state.
-pub fn row_of(s: State) -> u32
+// The row of the place, or of the byte after which no good sheet can follow.
+pub fn row_of(s: Result<Place, u32>) -> u32
     ensures { result ≡ row_of s }
 {
     match s {
-        State::Going(p) => p.row,
-        State::Bad(r) => r,
+        Ok(p) => p.row,
+        Err(r) => r,
     }
 }
 
 // Whether the byte ends the row at hand.
+#[tactic(auto, unfolding(crate::specs::Machine::ends_row))]
 fn ends_row(p: Place, b: u8) -> bool
     ensures { result ≡ ends_row p b }
 {
-    if p.row >= ROWS {
-        return false;
-    }
-    if b != 10 {
-        return false;
-    }
-    if p.field < 3 {
-        return false;
-    }
-    p.seen
+    p.row < ROWS && b == 10 && p.field >= 3 && p.seen
 }
 
 // Writes the row's three numbers where the byte ends it.
-fn store_place(p: Place, b: u8, list: &mut [u32])
-    requires { length list.old ≡ sheet_numbers }
+#[tactic(auto, using(crate::specs::MachineLaws::row_bound), unfolding(crate::specs::Machine::stored_place))]
+fn store_place(p: Place, b: u8, list: &mut [u32; NUMBERS])
     ensures { list.new ≡ stored_place p b list.old }
 {
     if ends_row(p, b) {
@@ -248,25 +218,15 @@ fn store_place(p: Place, b: u8, list: &mut [u32])
     }
 }
 
-// The state after the text, each row's numbers written as the row ends, up to the byte after which no good sheet can follow.
-pub fn fill(from: Place, text: &[u8], list: &mut [u32]) -> State
-    requires { length list.old ≡ sheet_numbers }
-    ensures { filled result list.new ≡ run fill_byte (filled (State.Going from) list.old) text.now }
+// The place after the text, each row's numbers written as the row ends, or the row of the first byte after which no good sheet can follow.
+// stays: the row alone as the Err: a struct of one number would be no plainer, since `sheet` makes it a refusal of its own.
+pub fn fill(from: Place, text: &[u8], list: &mut [u32; NUMBERS]) -> Result<Place, u32>
+    ensures { filled result list.new ≡ run fill_byte (filled (Ok from) list.old) text.now }
 {
     let mut p = from;
-    let mut i = 0;
-    while i < text.len() {
-        let b = text[i];
-        store_place(p, b, list);
-        match step_place(p, b) {
-            State::Bad(row) => {
-                return State::Bad(row);
-            }
-            State::Going(next) => {
-                p = next;
-            }
-        }
-        i += 1;
+    for b in text {
+        store_place(p, *b, list);
+        p = step_place(p, *b)?;
     }
-    State::Going(p)
+    Ok(p)
 }

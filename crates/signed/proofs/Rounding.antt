@@ -1,25 +1,14 @@
 -- The two ways of `nearest`: what each adds up fits, and is the nearest number, for it keeps the rule and no other number does. Assumes nothing.
 use Prim.Native.Nat.{ℕ, suc, ◌+◌, ◌-◌, ◌*◌, ◌/◌, ◌%◌, ◌<◌, ◌≤◌}
 use mathlib.Core.Path.{◌≡◌, refl, sym, ◌∙◌}
-use native.Mathlib.Nat.{mod-lt, mod-add-div', div-le_self, le_trans, lt_of_le_of_lt}
+use native.Mathlib.Nat.{mod-lt, mod-add-div', le_trans, lt_of_le_of_lt}
 use native.Mathlib.Omega.{arith}
 use lib.IntN.{ℤ, pos, negsuc, neg_ℤ, ◌+ℤ◌, ◌-ℤ◌}
 use mir.Syntax.{w64}
-use mir.Val.{Fits, SFits}
+use mir.Val.{SFits}
 use Rattle.signed.specs.Zed.{read, back, same_by, is_pos, is_minus, is_neg, fits_from, fits_up, gap_gives, gap_most}
 use Rattle.signed.specs.Nearest.{Nearest, carry_of, nearest_z}
 use Rattle.signed.specs.NearestLaws.{carried, carried_most, turned, nearest_keeps, nearest_one}
-
--- the quotient and the rest of a size by b
-module _ (n : ℕ) {b : ℕ} (o : 0 < b) where
-  pub rest_most : n % b ≤ b
-  rest_most = omega (arith, mod-lt n o)
-
-  pub lack_least : 1 ≤ b - n % b
-  lack_least = omega (arith, mod-lt n o)
-
-  pub over_fits : Fits w64 b → Fits w64 (n % b + 1)
-  over_fits f = record { fits = let h = f.fits in omega (arith, mod-lt n o) }
 
 -- with its carry it is the nearest number, and no larger than the size
 record Rounds (m b r : ℕ) : Type 0 where
@@ -35,7 +24,7 @@ neg_fits : {m : ℕ} → m ≤ 9223372036854775808 → SFits w64 (neg_ℤ (pos m
 neg_fits {m} h = fits_from w64 (is_neg (is_pos m)) (omega arith) (omega arith)
 
 -- the quotient turned
-pub minus_fits : {q : ℤ} {k : ℕ} → SFits w64 q → q ≡ pos k → SFits w64 (pos 0 -ℤ read q)
+minus_fits : {q : ℤ} {k : ℕ} → SFits w64 q → q ≡ pos k → SFits w64 (pos 0 -ℤ read q)
 minus_fits {k} f e =
     let h : k < 9223372036854775808 = rw e at (fits_up f) in
     rw (back f, e) (fits_from w64 (is_minus (is_pos 0) (is_pos k)) (omega arith) (omega arith))
@@ -52,9 +41,6 @@ module _ {q c : ℤ} {k g : ℕ} (fq : SFits w64 q) (fc : SFits w64 c) (eq : q �
 size_lt : {a : ℤ} {n : ℕ} → SFits w64 a → pos n ≡ read a → n < 9223372036854775808
 size_lt f e = rw (sym (e ∙ back f)) at (fits_up f)
 
-pub above_fits : (b : ℕ) {a : ℤ} {n : ℕ} → SFits w64 a → pos n ≡ read a → n / b < 9223372036854775808
-above_fits b {n = n} f e = omega (arith, size_lt f e, div-le_self n b)
-
 module _ {a q c : ℤ} {n b : ℕ} (o : 0 < b) (f : SFits w64 a) (e : pos n ≡ read a) (fq : SFits w64 q) (eq : q ≡ pos (n / b)) (fc : SFits w64 c)
     (ec : c ≡ pos (carry_of (n / b) (n % b) (b - n % b))) where
   above : Rounds n b (n / b + carry_of (n / b) (n % b) (b - n % b))
@@ -67,9 +53,6 @@ module _ {a q c : ℤ} {n b : ℕ} (o : 0 < b) (f : SFits w64 a) (e : pos n ≡ 
   sum_nearest = back sum_fits ∙ sum_is fq fc eq ec ∙ nearest_one o (rw (e ∙ back f) at above.nearest) (nearest_keeps a o)
 
 -- a number below zero: n is how far it lies below -1
-pub below_fits : (b : ℕ) {a : ℤ} {n : ℕ} → SFits w64 a → pos n ≡ negsuc 0 -ℤ read a → n / b < 9223372036854775808
-below_fits b {n = n} f e = omega (arith, gap_most f e, div-le_self n b)
-
 module _ {a q c : ℤ} {n b : ℕ} (o : 0 < b) (f : SFits w64 a) (e : pos n ≡ negsuc 0 -ℤ read a) (fq : SFits w64 q) (eq : q ≡ pos (n / b)) (fc : SFits w64 c)
     (ec : c ≡ pos (carry_of (n / b) (n % b + 1) (b - n % b - 1))) where
   below : Rounds (suc n) b (n / b + carry_of (n / b) (n % b + 1) (b - n % b - 1))

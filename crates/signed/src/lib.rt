@@ -13,10 +13,11 @@ ghost use Rattle.signed.specs.Nearest.{carry_of, nearest_z};
 pub fn inside(x: i64, lo: i64, hi: i64) -> bool
     ensures { result ≡ in_z lo hi x }
 {
-    if lo <= x { x <= hi } else { false }
+    lo <= x && x <= hi
 }
 
 // A number that is not below zero, unsigned.
+// stays: `u64::try_from` gives a Result, and past the test no call can meet its Err, nor `i64::try_from` below.
 pub fn to_u64(x: i64) -> u64
     requires { pos 0 ≤ℤ x }
     ensures { pos result ≡ x }
@@ -33,6 +34,7 @@ pub fn of_u64(x: u64) -> i64
 }
 
 // How far b lies above a.
+// stays: `abs_diff` says the same of a and b turned round, so the wrong program `gap_turned` would be right.
 pub fn gap(a: i64, b: i64) -> u64
     requires { (a ≤ℤ b) × SFits w64 (b -ℤ a) }
     ensures { pos result ≡ b -ℤ a }
@@ -41,6 +43,7 @@ pub fn gap(a: i64, b: i64) -> u64
 }
 
 // What a quotient gains, away from zero, to be the nearest whole number, where so much lies over and so much lacks to the next: at a tie, what makes it even.
+#[tactic(auto, unfolding(crate::specs::Nearest::carry_of))]
 fn carry(q: u64, over: u64, lack: u64) -> i64
     ensures { result ≡ pos (carry_of q over lack) }
 {

@@ -2,7 +2,7 @@
 // (specs/Taking.antt), and so is that a failed write closes the output for good (specs/Writing.antt). No contract can say what is read or written.
 #![tactic(auto)]
 
-ghost use Rattle.std.specs.Prelude.{◌≡◌, ◌≤◌, length};
+ghost use Rattle.std.specs.Prelude.{◌≡◌, ◌≤◌, length, IfSome};
 ghost use Rattle.stream.specs.Taking.{pushed, Takes, Inside};
 ghost use Rattle.stream.specs.Reading.{piece_of, nothing_read, Reads, last_line, taken_with, over_with};
 ghost use Rattle.stream.specs.Writing.{outcome_of, Within, after_write, Flushed, Roomed, Free, Leaves};
@@ -13,33 +13,33 @@ pub use failure::fail;
 use std::io::{Error, ErrorKind, Print, Read};
 use std::thread;
 
-// A line that is still read: how many of its bytes are held, or that there were too many.
-#[derive(Clone, Copy)]
-pub enum Held {
-    Bytes(usize),
-    Over,
-}
+// A line that is still read: how many of its bytes are held, or none where there were too many.
+pub type Held = Option<usize>;
 
-// What was taken of a piece of the input: the line so far, the place after it, and whether a line feed ended it.
+// The output of a run: where its next byte goes, or none after a write that failed. Nothing is put and nothing is written then, so what came out is a start of the answers.
+pub type Output = Option<usize>;
+
+// An input that could not be read, or whose answers nobody takes any more. What there is to say of it was said on standard error.
+#[derive(Clone, Copy)]
+pub struct Failed;
+
+// What was taken of a piece of the input: the line so far, and the place after the line feed that ended it, where one did.
 #[derive(Clone, Copy)]
 struct Taken {
     pub held: Held,
-    pub next: usize,
-    pub whole: bool,
+    pub next: Option<usize>,
 }
 
 // The line with one byte more, where there is room for it.
 fn push(held: Held, b: u8, line: &mut [u8]) -> Held
     ensures { record { held = result; buffer = line.new } ≡ pushed held line.old b }
 {
-    let Held::Bytes(n) = held else {
-        return Held::Over;
-    };
+    let n = held?;
     if n < line.len() {
         line[n] = b;
-        Held::Bytes(n + 1)
+        Some(n + 1)
     } else {
-        Held::Over
+        None
     }
 }
 
@@ -48,83 +48,50 @@ fn take_line(held: Held, piece: &[u8], from: usize, line: &mut [u8]) -> Taken
     ensures { Takes held piece.now from line.old result line.new }
 {
     let mut held = held;
-    let mut i = from;
-    while i < piece.len() {
+    for i in from..piece.len() {
         let b = piece[i];
-        i += 1;
-        if b == 10 {
-            return Taken {
-                held,
-                next: i,
-                whole: true,
-            };
+        if b == b'\n' {
+            let next = Some(i + 1);
+            return Taken { held, next };
         }
         held = push(held, b, line);
     }
-    Taken {
-        held,
-        next: i,
-        whole: false,
-    }
+    Taken { held, next: None }
 }
 
-// What a read gave: so many bytes of the piece, the end of the input, or nothing, after a line on standard error.
-#[derive(Clone, Copy)]
-pub enum Got {
-    Bytes(usize),
-    End,
-    Failed,
-}
-
-// Reads a piece of an input as it comes; a failure's line names the input.
-pub fn read_some<R: Read, E: Print>(input: &mut R, errors: &E, what: &[u8], piece: &mut [u8]) -> Got
+// Reads a piece of an input as it comes, no byte at its end; a failure's line names the input.
+pub fn read_some<R: Read, E: Print>(
+    input: &mut R,
+    errors: &E,
+    what: &[u8],
+    piece: &mut [u8],
+) -> Result<usize, Failed>
     ensures { Inside result piece.new }
 {
-    match input.read(piece) {
-        Ok(n) => if n == 0 { Got::End } else { Got::Bytes(n) },
-        Err(why) => {
-            fail(errors, what, &why);
-            Got::Failed
-        }
-    }
-}
-
-// The output of a run: where its next byte goes, or that a write failed. Nothing is put and nothing is written after a failure, so what came out is a start of the answers.
-#[derive(Clone, Copy)]
-pub enum Output {
-    At(usize),
-    Closed,
-}
-
-// What one write came to: so many bytes were taken, it may be tried again, or it failed.
-#[derive(Clone, Copy)]
-enum Wrote {
-    Took(usize),
-    Nothing,
-    Failed,
+    input.read(piece).map_err(|why| {
+        fail(errors, what, &why);
+        Failed
+    })
 }
 
 // Whether a write that took nothing may be tried again: where a signal interrupted it, or a pipe that does not block is full.
 fn passes(why: &Error) -> bool {
-    match why.kind() {
-        ErrorKind::Interrupted => true,
-        ErrorKind::WouldBlock => true,
-        _ => false,
-    }
+    matches!(why.kind(), ErrorKind::Interrupted | ErrorKind::WouldBlock)
 }
 
-// What a write came to, by how many bytes it took.
-fn outcome(taken: usize, again: bool) -> Wrote
+// What a write came to, by how many bytes it took: so many, none where it may be tried again, or that it failed.
+fn outcome(taken: usize, again: bool) -> Option<usize>
     ensures { result ≡ outcome_of taken again }
 {
-    if taken > 0 {
-        return Wrote::Took(taken);
+    if taken > 0 || again {
+        Some(taken)
+    } else {
+        None
     }
-    if again { Wrote::Nothing } else { Wrote::Failed }
 }
 
 // One write of a part of a buffer; `why` is its error, where it has one.
-fn write_part<W: Print>(to: &W, part: &[u8], why: &mut Error) -> Wrote
+fn write_part<W: Print>(to: &W, part: &[u8], why: &mut Error) -> Option<usize>
     ensures { Within result part.now }
 {
     match to.write_some(part) {
@@ -137,38 +104,28 @@ fn write_part<W: Print>(to: &W, part: &[u8], why: &mut Error) -> Wrote
     }
 }
 
-// Writes the first bytes of a buffer, and goes on from where a write stopped. Answers whether all were taken, and where they were not `why` is the last error. Its turns are
-// counted down, from a number that no run uses up.
-fn write_first<W: Print>(to: &W, out: &[u8], end: usize, why: &mut Error) -> bool
-    requires { end ≤ length out.now }
-{
+// Writes bytes, and goes on from where a write stopped. The error is the last that a write had. A proved loop has to end: its turns are counted, up to a number that no run uses up.
+fn write_first<W: Print>(to: &W, bytes: &[u8]) -> Result<(), Error> {
+    let mut why = no_error();
     let mut from = 0;
-    let mut turns = u64::MAX;
-    while turns > 0 {
-        if from >= end {
-            return true;
+    for _ in 0..u64::MAX {
+        if from >= bytes.len() {
+            return Ok(());
         }
-        turns -= 1;
-        match write_part(to, &out[from..end], why) {
-            Wrote::Took(n) => {
-                from += n;
-            }
-            Wrote::Nothing => {
-                thread::yield_now();
-            }
-            Wrote::Failed => {
-                return false;
-            }
+        match write_part(to, &bytes[from..], &mut why) {
+            Some(0) => thread::yield_now(),
+            Some(n) => from += n,
+            None => return Err(why),
         }
     }
-    false
+    Err(why)
 }
 
 // The output after a write: its start where all was written, or closed.
 fn after(whole: bool) -> Output
     ensures { result ≡ after_write whole }
 {
-    if whole { Output::At(0) } else { Output::Closed }
+    whole.then_some(0)
 }
 
 // No error yet: what a write that takes nothing and has no error is told as.
@@ -180,44 +137,36 @@ fn no_error() -> Error {
 pub fn flush<W: Print, E: Print>(to: &W, errors: &E, out: &[u8], output: Output) -> Output
     ensures { Flushed output result }
 {
-    let Output::At(at) = output else {
-        return Output::Closed;
-    };
-    let mut why = no_error();
-    let whole = write_first(to, out, bounded(at, out), &mut why);
-    if !whole {
-        fail(errors, b"standard output", &why);
+    let at = output?;
+    let written = write_first(to, &out[..at.min(out.len())]);
+    if let Err(why) = &written {
+        fail(errors, b"standard output", why);
     }
-    after(whole)
+    after(written.is_ok())
 }
 
 // Flushes where less than half of the output is free. Answers where to go on.
 pub fn make_room<W: Print, E: Print>(to: &W, errors: &E, out: &[u8], output: Output) -> Output
     ensures { Roomed output out.now result }
 {
-    let Output::At(at) = output else {
-        return flush(to, errors, out, Output::Closed);
-    };
-    if at < out.len() / 2 {
-        return Output::At(at);
+    match output {
+        Some(at) if at < out.len() / 2 => output,
+        _ => flush(to, errors, out, output),
     }
-    flush(to, errors, out, Output::At(at))
 }
 
-// Writes what is filled of a buffer to standard error. Nothing is left to say where that fails.
+// Writes bytes to standard error. Nothing is left to say where that fails.
+fn say_all<E: Print>(errors: &E, bytes: &[u8]) {
+    let _ = write_first(errors, bytes);
+}
+
+// Writes what is filled of a buffer to standard error.
 pub fn say<E: Print>(errors: &E, out: &[u8], at: usize) {
-    let mut why = no_error();
-    write_first(errors, out, bounded(at, out), &mut why);
-}
-
-// A place of the buffer, or its end.
-fn bounded(at: usize, out: &[u8]) -> usize
-    ensures { result ≤ length out.now }
-{
-    if at < out.len() { at } else { out.len() }
+    say_all(errors, &out[..at.min(out.len())]);
 }
 
 // An input that is read in pieces: the bytes of the last piece that are left, and whether the input has ended.
+// stays: a flag beside the places, since bytes are left where the input has ended.
 #[derive(Clone, Copy)]
 pub struct Reader {
     pub from: usize,
@@ -225,18 +174,10 @@ pub struct Reader {
     pub ended: bool,
 }
 
-// The next line of an input, that there is none, or that the input could not be read or nobody takes the answers any more.
-#[derive(Clone, Copy)]
-pub enum Line {
-    Of(Held),
-    End,
-    Unread,
-}
-
-// A line, with the input and the output after it.
+// The next line of an input, or that there is none, with the input and the output after it.
 #[derive(Clone, Copy)]
 pub struct Next {
-    pub line: Line,
+    pub line: Result<Option<Held>, Failed>,
     pub reader: Reader,
     pub output: Output,
 }
@@ -259,7 +200,7 @@ pub fn unread() -> Reader
     piece_of(0)
 }
 
-// Reads the next piece; none after the input's end, nor where the output is closed.
+// Reads the next piece; no byte after the input's end, and none where the output is closed.
 fn read_next<R: Read, E: Print>(
     input: &mut R,
     errors: &E,
@@ -267,25 +208,25 @@ fn read_next<R: Read, E: Print>(
     piece: &mut [u8],
     ended: bool,
     output: Output,
-) -> Got
+) -> Result<usize, Failed>
     ensures { Reads ended output piece.old result piece.new }
 {
     if ended {
-        return Got::End;
+        return Ok(0);
     }
     match output {
-        Output::At(_) => read_some(input, errors, what, piece),
-        Output::Closed => Got::Failed,
+        Some(_) => read_some(input, errors, what, piece),
+        None => Err(Failed),
     }
 }
 
 // The last line of an input, where bytes of one are held.
-fn last_line(held: Held) -> Line
+fn last_line(held: Held) -> Option<Held>
     ensures { result ≡ last_line held }
 {
     match held {
-        Held::Bytes(n) => if n == 0 { Line::End } else { Line::Of(held) },
-        Held::Over => Line::Of(held),
+        Some(0) => None,
+        _ => Some(held),
     }
 }
 
@@ -293,21 +234,18 @@ fn last_line(held: Held) -> Line
 fn taken_with(held: Held, next: usize, reader: Reader, output: Output) -> Next
     ensures { result ≡ taken_with held next reader output }
 {
-    let line = Line::Of(held);
-    let reader = Reader {
-        from: next,
-        end: reader.end,
-        ended: reader.ended,
-    };
     Next {
-        line,
-        reader,
+        line: Ok(Some(held)),
+        reader: Reader {
+            from: next,
+            ..reader
+        },
         output,
     }
 }
 
 // No further line of an input: its reader is at the end.
-fn over(line: Line, output: Output) -> Next
+fn over(line: Result<Option<Held>, Failed>, output: Output) -> Next
     ensures { result ≡ over_with line output }
 {
     Next {
@@ -322,7 +260,8 @@ fn over(line: Line, output: Output) -> Next
 }
 
 // The next line of an input. Before each read what is filled of the output is written, so that whoever asks has the answers. A proved loop has to end, and nothing says
-// that the input does: so it counts its turns down, from a number that no run uses up.
+// that the input does: so its turns are counted, up to a number that no run uses up.
+// stays: places lent beside counts, and no Vec, since nothing is on the heap; each by itself, since one struct of them would be made anew for each line, and no plainer.
 pub fn next_line<R: Read, W: Print, E: Print>(
     input: &mut R,
     to: &W,
@@ -337,25 +276,21 @@ pub fn next_line<R: Read, W: Print, E: Print>(
     requires { (reader.end ≤ length piece.old) × Free output out.now }
     ensures { (result.reader.end ≤ length piece.new) × Leaves output out.now result.output out.now }
 {
-    let mut held = Held::Bytes(0);
+    let mut held = Some(0);
     let mut reader = reader;
     let mut output = output;
-    let mut turns = u64::MAX;
-    while turns > 0 {
-        turns -= 1;
-        let end = reader.end;
-        let ended = reader.ended;
-        let taken = take_line(held, &piece[..end], reader.from, line);
+    for _ in 0..u64::MAX {
+        let taken = take_line(held, &piece[..reader.end], reader.from, line);
         held = taken.held;
-        if taken.whole {
-            return taken_with(held, taken.next, reader, output);
+        if let Some(next) = taken.next {
+            return taken_with(held, next, reader, output);
         }
         output = flush(to, errors, out, output);
-        match read_next(input, errors, what, piece, ended, output) {
-            Got::Bytes(n) => reader = piece_of(n),
-            Got::End => return over(last_line(held), output),
-            Got::Failed => return over(Line::Unread, output),
+        match read_next(input, errors, what, piece, reader.ended, output) {
+            Ok(0) => return over(Ok(last_line(held)), output),
+            Ok(n) => reader = piece_of(n),
+            Err(Failed) => return over(Err(Failed), output),
         }
     }
-    over(Line::Unread, output)
+    over(Err(Failed), output)
 }

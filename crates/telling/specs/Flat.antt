@@ -1,12 +1,11 @@
 -- What a call tells, as one struct by value: 0 or the refusal's number, the row and whether there is one, the values of the answer, and 0 in every field that a case does not
 -- have. Each definition takes what the entry of the same name tells (`Told`, in the paper's numbers). Definitions only.
-use Rattle.std.specs.Prelude.{Bool, false, cond, [], ℕ, eqb, ℤ, pos, Float}
+use Rattle.std.specs.Prelude.{Bool, false, cond, [], ℕ, eqb, ℤ, pos, Float, Option, None, Some}
 use Rattle.std.specs.Float.{binary64}
 use Rattle.std.specs.Float.Ieee.{of_bits}
 use Rattle.signed.specs.Zed.{up}
 use Rattle.refusal.specs.declared.Refusal.{Refusal}
-use Rattle.refusal.specs.declared.Refusal.TheVariants.{Plain, At}
-use Rattle.refusal.specs.Refusals.{Told, gives, refused, number_of}
+use Rattle.refusal.specs.Refusals.{Numbered, Plain, At, numbered, Told, gives, refused, number_of}
 use Rattle.air.specs.Inverse.{Found}
 use Rattle.burning.specs.declared.Charge.{Charge}
 use Rattle.burning.specs.declared.Products.{Products}
@@ -32,7 +31,7 @@ number (gives a) = 0
 number (refused r) = number_of r
 
 -- the row of a refusal, 0 where it has none
-abbrev pub row_in : Refusal → ℕ
+abbrev pub row_in : Numbered → ℕ
 row_in (Plain n) = 0
 row_in (At n r) = r
 
@@ -41,7 +40,7 @@ row (gives a) = 0
 row (refused r) = row_in r
 
 -- 1 where the refusal has a row, else 0: row 0 is a row
-abbrev pub placed_in : Refusal → ℕ
+abbrev pub placed_in : Numbered → ℕ
 placed_in (Plain n) = 0
 placed_in (At n r) = 1
 
@@ -56,6 +55,11 @@ values_or none (refused r) = none
 
 abbrev pub flat_sheet : Told (Unit {0}) → SheetTold
 flat_sheet t = record { refusal = number t; row = row t; placed = placed t }
+
+-- the refusal of an answer, and none: with these fields every struct begins
+abbrev pub flat_refusal : Option Refusal → SheetTold
+flat_refusal None = flat_sheet (gives tt)
+flat_refusal (Some r) = flat_sheet (refused (numbered r))
 
 -- the bytes of a text that was written
 abbrev pub flat_written : Told ℕ → WrittenTold

@@ -5,7 +5,7 @@ use Rattle.refusal.specs.Refusals.{Told, gives, refused}
 use Rattle.sheet_text.specs.declared.Place.{Place}
 use Rattle.sheet.specs.declared.pieces.SheetReading.{SheetReading}
 use Rattle.sheet.specs.declared.pieces.SheetReading.TheVariants.{Going, Refused, Accepted}
-use Rattle.sheet.specs.Pieces.{Progress, more, accepted}
+use Rattle.sheet.specs.declared.pieces.Progress.{Progress}
 use Rattle.telling.specs.declared.SheetTold.{SheetTold}
 use Rattle.telling.specs.declared.pieces.ReadingState.{ReadingState}
 use Rattle.telling.specs.declared.pieces.PieceTold.{PieceTold}
@@ -39,8 +39,8 @@ told_with t n s = record { refusal = t.refusal; row = t.row; placed = t.placed; 
 
 -- 1 where more is expected
 abbrev pub more_in : Told Progress → ℕ
-more_in (gives more) = 1
-more_in (gives accepted) = 0
+more_in (gives Progress.More) = 1
+more_in (gives Progress.Accepted) = 0
 more_in (refused r) = 0
 
 abbrev pub flat_piece : Told Progress → SheetReading → PieceTold

@@ -5,8 +5,8 @@
 
 pub mod pieces;
 
-ghost use Rattle.std.specs.Prelude.{◌≡◌};
-ghost use Rattle.refusal.specs.Refusals.{gives, refused};
+ghost use Rattle.std.specs.Prelude.{◌≡◌, Ok};
+ghost use Rattle.refusal.specs.Refusals.{numbered};
 ghost use Rattle.air.specs.Answers.{paper_reading, paper_psi};
 ghost use Rattle.sheet.specs.Answers.{paper_sheet};
 ghost use Rattle.sheet.specs.Writing.{paper_write};
@@ -15,15 +15,14 @@ ghost use Rattle.gas.specs.Answers.{paper_heat, paper_specific, paper_temperatur
 ghost use Rattle.walk.specs.Walk.{paper_walk};
 ghost use Rattle.marking.specs.Marking.{paper_mark};
 ghost use Rattle.marking.specs.Figures.{paper_station};
-ghost use Rattle.telling.specs.Flat.{row_in, placed_in, flat_sheet, flat_written, flat_reading, flat_burn, flat_heat, flat_temperature, flat_psi, flat_walk, flat_course, flat_begun, flat_station, flat_mark, typed_of};
+ghost use Rattle.telling.specs.Flat.{row_in, placed_in, flat_refusal, flat_sheet, flat_written, flat_reading, flat_burn, flat_heat, flat_temperature, flat_psi, flat_walk, flat_course, flat_station, flat_mark, typed_of};
 
-use air::{Millikelvin, PsiAnswer, Reading};
-use burning::{BurnAnswer, Charge};
-use gas::{HeatAnswer, SpecificAnswer, TemperatureAnswer};
-use marking::{MarkAnswer, StationAnswer, Typed};
+use air::Millikelvin;
+use burning::{Charge, Products};
+use gas::Heat;
+use marking::{Marked, StationFigure, Typed};
 use refusal::Refusal;
-use sheet::{SheetAnswer, WriteAnswer};
-use walk::WalkAnswer;
+use walk::Course;
 
 // What the calls that read, judge or give a sheet tell.
 #[repr(C)]
@@ -141,224 +140,141 @@ pub struct MarkTold {
 const NO_ROW: u32 = 0;
 
 // The row of a refusal.
-fn row_of(r: Refusal) -> u32
-    ensures { result ≡ row_in r }
+fn row_of(refusal: Refusal) -> u32
+    ensures { result ≡ row_in (numbered refusal) }
 {
-    match r {
-        Refusal::Plain(_) => NO_ROW,
-        Refusal::At(_, row) => row,
-    }
+    refusal.row().unwrap_or(NO_ROW)
 }
 
 // Whether a refusal has a row: 1, else 0.
-fn placed_of(r: Refusal) -> u32
-    ensures { result ≡ placed_in r }
+fn placed_of(refusal: Refusal) -> u32
+    ensures { result ≡ placed_in (numbered refusal) }
 {
-    match r {
-        Refusal::Plain(_) => 0,
-        Refusal::At(_, _) => 1,
-    }
+    u32::from(refusal.row().is_some())
 }
 
-// No refusal: the first three fields of every struct.
-pub(crate) fn tell_nothing() -> SheetTold
-    ensures { result ≡ flat_sheet (gives tt) }
+// What is told of a refusal, and of none: the first three fields of every struct.
+pub(crate) fn tell_refusal(refusal: Option<Refusal>) -> SheetTold
+    ensures { result ≡ flat_refusal refusal }
 {
-    SheetTold {
-        refusal: 0,
-        row: NO_ROW,
-        placed: 0,
-    }
-}
-
-// A refusal alone, as the calls for a sheet tell it: the first three fields of every other struct.
-pub(crate) fn tell_refusal(r: Refusal) -> SheetTold
-    ensures { result ≡ flat_sheet (refused r) }
-{
-    SheetTold {
-        refusal: refusal::number_of(r),
-        row: row_of(r),
-        placed: placed_of(r),
+    match refusal {
+        None => SheetTold {
+            refusal: 0,
+            row: NO_ROW,
+            placed: 0,
+        },
+        Some(refusal) => SheetTold {
+            refusal: refusal.number(),
+            row: row_of(refusal),
+            placed: placed_of(refusal),
+        },
     }
 }
 
 // A sheet read or judged.
-pub fn tell_sheet(answer: SheetAnswer) -> SheetTold
+pub fn tell_sheet(answer: Result<(), Refusal>) -> SheetTold
     ensures { result ≡ flat_sheet (paper_sheet answer) }
 {
-    match answer {
-        SheetAnswer::Good => tell_nothing(),
-        SheetAnswer::Refused(r) => tell_refusal(r),
-    }
+    tell_refusal(answer.err())
 }
 
 // A sheet written.
-pub fn tell_written(answer: WriteAnswer) -> WrittenTold
+pub fn tell_written(answer: Result<usize, Refusal>) -> WrittenTold
     ensures { result ≡ flat_written (paper_write answer) }
 {
-    match answer {
-        WriteAnswer::Written(bytes) => WrittenTold {
-            refusal: 0,
-            row: NO_ROW,
-            placed: 0,
-            bytes,
-        },
-        WriteAnswer::Refused(r) => {
-            let told = tell_refusal(r);
-            WrittenTold {
-                refusal: told.refusal,
-                row: told.row,
-                placed: told.placed,
-                bytes: 0,
-            }
-        }
+    let told = tell_refusal(answer.err());
+    WrittenTold {
+        refusal: told.refusal,
+        row: told.row,
+        placed: told.placed,
+        bytes: answer.unwrap_or(0),
     }
 }
 
 // A number read from the air table.
-pub fn tell_reading(answer: Reading) -> ReadingTold
+pub fn tell_reading(answer: Result<u64, Refusal>) -> ReadingTold
     ensures { result ≡ flat_reading (paper_reading answer) }
 {
-    match answer {
-        Reading::Is(reading) => ReadingTold {
-            refusal: 0,
-            row: NO_ROW,
-            placed: 0,
-            reading,
-        },
-        Reading::Refused(r) => {
-            let told = tell_refusal(r);
-            ReadingTold {
-                refusal: told.refusal,
-                row: told.row,
-                placed: told.placed,
-                reading: 0,
-            }
-        }
+    let told = tell_refusal(answer.err());
+    ReadingTold {
+        refusal: told.refusal,
+        row: told.row,
+        placed: told.placed,
+        reading: answer.unwrap_or(0),
     }
 }
 
 // The products of a charge.
-pub fn tell_burn(answer: BurnAnswer) -> BurnTold
+pub fn tell_burn(answer: Result<Products, Refusal>) -> BurnTold
     ensures { result ≡ flat_burn (paper_burn answer) }
 {
-    match answer {
-        BurnAnswer::Is(products) => BurnTold {
-            refusal: 0,
-            row: NO_ROW,
-            placed: 0,
-            co2: products.co2,
-            h2o: products.h2o,
-            o2: products.o2,
-            n2: products.n2,
-            ar: products.ar,
-        },
-        BurnAnswer::Refused(r) => {
-            let told = tell_refusal(r);
-            BurnTold {
-                refusal: told.refusal,
-                row: told.row,
-                placed: told.placed,
-                co2: 0,
-                h2o: 0,
-                o2: 0,
-                n2: 0,
-                ar: 0,
-            }
-        }
-    }
-}
-
-// A refusal where a heat was asked for.
-fn no_heat(r: Refusal) -> HeatTold
-    ensures { result ≡ flat_heat (refused r) }
-{
-    let told = tell_refusal(r);
-    HeatTold {
+    let told = tell_refusal(answer.err());
+    let products = answer.unwrap_or(Products {
+        co2: 0,
+        h2o: 0,
+        o2: 0,
+        n2: 0,
+        ar: 0,
+    });
+    BurnTold {
         refusal: told.refusal,
         row: told.row,
         placed: told.placed,
-        heat: 0,
+        co2: products.co2,
+        h2o: products.h2o,
+        o2: products.o2,
+        n2: products.n2,
+        ar: products.ar,
     }
 }
 
 // A gas heat or a content.
-pub fn tell_heat(answer: HeatAnswer) -> HeatTold
+pub fn tell_heat(answer: Result<Heat, Refusal>) -> HeatTold
     ensures { result ≡ flat_heat (paper_heat answer) }
 {
-    match answer {
-        HeatAnswer::Is(heat) => HeatTold {
-            refusal: 0,
-            row: NO_ROW,
-            placed: 0,
-            heat: heat.0,
-        },
-        HeatAnswer::Refused(r) => no_heat(r),
+    let told = tell_refusal(answer.err());
+    HeatTold {
+        refusal: told.refusal,
+        row: told.row,
+        placed: told.placed,
+        heat: answer.unwrap_or(Heat(0)).0,
     }
 }
 
 // A specific content.
-pub fn tell_specific(answer: SpecificAnswer) -> HeatTold
+pub fn tell_specific(answer: Result<i64, Refusal>) -> HeatTold
     ensures { result ≡ flat_heat (paper_specific answer) }
 {
-    match answer {
-        SpecificAnswer::Is(heat) => HeatTold {
-            refusal: 0,
-            row: NO_ROW,
-            placed: 0,
-            heat,
-        },
-        SpecificAnswer::Refused(r) => no_heat(r),
-    }
+    tell_heat(answer.map(|heat| Heat(heat)))
 }
 
 // A temperature with its rest.
-pub fn tell_temperature(answer: TemperatureAnswer) -> TemperatureTold
+pub fn tell_temperature(answer: Result<(Millikelvin, Heat), Refusal>) -> TemperatureTold
     ensures { result ≡ flat_temperature (paper_temperature answer) }
 {
-    match answer {
-        TemperatureAnswer::At(t, rest) => TemperatureTold {
-            refusal: 0,
-            row: NO_ROW,
-            placed: 0,
-            millikelvin: t.0,
-            rest: rest.0,
-        },
-        TemperatureAnswer::Refused(r) => {
-            let told = tell_refusal(r);
-            TemperatureTold {
-                refusal: told.refusal,
-                row: told.row,
-                placed: told.placed,
-                millikelvin: 0,
-                rest: 0,
-            }
-        }
+    let told = tell_refusal(answer.err());
+    let (t, rest) = answer.unwrap_or((Millikelvin(0), Heat(0)));
+    TemperatureTold {
+        refusal: told.refusal,
+        row: told.row,
+        placed: told.placed,
+        millikelvin: t.0,
+        rest: rest.0,
     }
 }
 
 // A temperature of air with its rest.
-pub fn tell_psi(answer: PsiAnswer) -> PsiTold
+pub fn tell_psi(answer: Result<(Millikelvin, u64), Refusal>) -> PsiTold
     ensures { result ≡ flat_psi (paper_psi answer) }
 {
-    match answer {
-        PsiAnswer::At(t, rest) => PsiTold {
-            refusal: 0,
-            row: NO_ROW,
-            placed: 0,
-            millikelvin: t.0,
-            rest,
-        },
-        PsiAnswer::Refused(r) => {
-            let told = tell_refusal(r);
-            PsiTold {
-                refusal: told.refusal,
-                row: told.row,
-                placed: told.placed,
-                millikelvin: 0,
-                rest: 0,
-            }
-        }
+    let told = tell_refusal(answer.err());
+    let (t, rest) = answer.unwrap_or((Millikelvin(0), 0));
+    PsiTold {
+        refusal: told.refusal,
+        row: told.row,
+        placed: told.placed,
+        millikelvin: t.0,
+        rest,
     }
 }
 
@@ -379,97 +295,75 @@ fn tell_course(told: SheetTold, begun: u32, steps: u32, charge: Charge, t: Milli
     }
 }
 
-// A walk that began: 0 or the number of the refused step, the steps done, the charge and the temperature.
-fn tell_begun(refusal: u32, steps: u32, charge: Charge, t: Millikelvin) -> WalkTold
-    ensures { result ≡ flat_begun refusal steps charge t.0 }
+// A walk that began: done, or stopped by the refusal of a step, of which the number alone is told.
+fn tell_begun(course: Course) -> WalkTold
+    ensures { result ≡ flat_walk (paper_walk (Ok course)) }
 {
     let told = SheetTold {
-        refusal,
+        refusal: tell_refusal(course.stop).refusal,
         row: NO_ROW,
         placed: 0,
     };
-    tell_course(told, 1, steps, charge, t)
+    tell_course(told, 1, course.steps, course.charge, course.t)
 }
 
 // A walk done, stopped or refused at its start.
-pub fn tell_walk(answer: WalkAnswer) -> WalkTold
+pub fn tell_walk(answer: Result<Course, Refusal>) -> WalkTold
     ensures { result ≡ flat_walk (paper_walk answer) }
 {
     match answer {
-        WalkAnswer::Done(steps, charge, t) => tell_begun(0, steps, charge, t),
-        WalkAnswer::Stopped(steps, number, charge, t) => tell_begun(number, steps, charge, t),
-        WalkAnswer::Refused(r) => {
+        Ok(course) => tell_begun(course),
+        Err(refusal) => {
             let none = burning::inner::charge_in(&[0i64; burning::inner::CHARGE_NUMBERS]);
-            tell_course(tell_refusal(r), 0, 0, none, Millikelvin(0))
+            tell_course(tell_refusal(Some(refusal)), 0, 0, none, Millikelvin(0))
         }
     }
 }
 
 // A station's figures.
-pub fn tell_station(answer: StationAnswer) -> StationTold
+pub fn tell_station(answer: Result<StationFigure, Refusal>) -> StationTold
     ensures { result ≡ flat_station (paper_station answer) }
 {
-    match answer {
-        StationAnswer::Is(figures) => StationTold {
-            refusal: 0,
-            row: NO_ROW,
-            placed: 0,
-            millikelvin: figures.millikelvin,
-            content: figures.content,
-            mass: figures.mass,
-        },
-        StationAnswer::Refused(r) => {
-            let told = tell_refusal(r);
-            StationTold {
-                refusal: told.refusal,
-                row: told.row,
-                placed: told.placed,
-                millikelvin: 0.0,
-                content: 0.0,
-                mass: 0.0,
-            }
-        }
+    let told = tell_refusal(answer.err());
+    let figures = answer.unwrap_or(StationFigure {
+        millikelvin: 0.0,
+        content: 0.0,
+        mass: 0.0,
+    });
+    StationTold {
+        refusal: told.refusal,
+        row: told.row,
+        placed: told.placed,
+        millikelvin: figures.millikelvin,
+        content: figures.content,
+        mass: figures.mass,
     }
 }
 
 // A typed answer by the number of its kind: 0 kelvins, 1 a specific content, else blank.
+// stays: a number for the kind, and each answer told by a function and not by From, for the C interface: two answers of one type go to two structs.
 pub fn typed_of(kind: u32, number: f64) -> Typed
     ensures { result ≡ typed_of kind number }
 {
-    if kind == 0 {
-        return Typed::Kelvins(number);
+    match kind {
+        0 => Typed::Kelvins(number),
+        1 => Typed::Content(number),
+        _ => Typed::Blank,
     }
-    if kind == 1 {
-        return Typed::Content(number);
-    }
-    Typed::Blank
 }
 
 // A mark.
-pub fn tell_mark(answer: MarkAnswer) -> MarkTold
+pub fn tell_mark(answer: Result<Marked, Refusal>) -> MarkTold
     ensures { result ≡ flat_mark (paper_mark answer) }
 {
-    match answer {
-        MarkAnswer::Counts => MarkTold {
-            refusal: 0,
-            row: NO_ROW,
-            placed: 0,
-            counts: 1,
+    let told = tell_refusal(answer.err());
+    MarkTold {
+        refusal: told.refusal,
+        row: told.row,
+        placed: told.placed,
+        counts: match answer {
+            Ok(Marked::Counts) => 1,
+            _ => 0,
         },
-        MarkAnswer::Misses => MarkTold {
-            refusal: 0,
-            row: NO_ROW,
-            placed: 0,
-            counts: 0,
-        },
-        MarkAnswer::Refused(r) => {
-            let told = tell_refusal(r);
-            MarkTold {
-                refusal: told.refusal,
-                row: told.row,
-                placed: told.placed,
-                counts: 0,
-            }
-        }
     }
 }

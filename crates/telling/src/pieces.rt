@@ -5,7 +5,7 @@ ghost use Rattle.sheet.specs.Pieces.{paper_piece};
 ghost use Rattle.telling.specs.Pieces.{place_in, reading_in, over_at, state_of, told_with, flat_piece, flat_closed};
 
 use crate::SheetTold;
-use sheet::pieces::{Closed, PieceAnswer, SheetReading, Taken};
+use sheet::pieces::{Closed, Progress, SheetReading, Taken};
 use sheet_text::Place;
 
 // Where a reading stands. At stage 0 it goes on from a place, 1 is refused with 2 at the row, 2 is accepted.
@@ -33,6 +33,7 @@ pub struct PieceTold {
 }
 
 // the stages
+// stays: numbers and no enum, for the C interface: `ReadingState.stage` is a `u32` of C, and each number that comes back in it means a reading
 const GOING: u32 = 0;
 
 const REFUSED: u32 = 1;
@@ -43,10 +44,11 @@ const ACCEPTED: u32 = 2;
 fn field_in(field: u32) -> u8
     ensures { result ≡ cond (ltb field 3) field 3 }
 {
-    if field < 3 { field as u8 } else { 3 }
+    field.min(3) as u8
 }
 
 // The place of the numbers that are handed in.
+#[tactic(auto, unfolding(crate::specs::Pieces::place_in))]
 fn place_in(state: ReadingState) -> Place
     ensures { result ≡ place_in state }
 {
@@ -64,13 +66,11 @@ fn place_in(state: ReadingState) -> Place
 pub fn reading_in(state: ReadingState) -> SheetReading
     ensures { result ≡ reading_in state }
 {
-    if state.stage == GOING {
-        return SheetReading::Going(place_in(state));
+    match state.stage {
+        GOING => SheetReading::Going(place_in(state)),
+        ACCEPTED => SheetReading::Accepted,
+        _ => SheetReading::Refused(state.row),
     }
-    if state.stage == ACCEPTED {
-        return SheetReading::Accepted;
-    }
-    SheetReading::Refused(state.row)
 }
 
 // The numbers of a reading that is over.
@@ -96,8 +96,8 @@ pub fn state_of(reading: SheetReading) -> ReadingState
         SheetReading::Going(p) => ReadingState {
             stage: GOING,
             row: p.row,
-            field: p.field as u32,
-            seen: p.seen as u32,
+            field: u32::from(p.field),
+            seen: u32::from(p.seen),
             value: p.value,
             first: p.first,
             second: p.second,
@@ -124,20 +124,18 @@ fn told_with(told: SheetTold, more: u32, reading: SheetReading) -> PieceTold
 pub fn tell_piece(taken: Taken) -> PieceTold
     ensures { result ≡ flat_piece (paper_piece taken.answer) taken.reading }
 {
-    let reading = taken.reading;
-    let answer = taken.answer;
-    match answer {
-        PieceAnswer::More => told_with(crate::tell_nothing(), 1, reading),
-        PieceAnswer::Accepted => told_with(crate::tell_nothing(), 0, reading),
-        PieceAnswer::Refused(r) => told_with(crate::tell_refusal(r), 0, reading),
-    }
+    let more = match taken.answer {
+        Ok(Progress::More) => 1,
+        _ => 0,
+    };
+    let told = crate::tell_refusal(taken.answer.err());
+    told_with(told, more, taken.reading)
 }
 
 // A reading that was closed.
 pub fn tell_closed(closed: Closed) -> PieceTold
     ensures { result ≡ flat_closed (paper_sheet closed.answer) closed.reading }
 {
-    let reading = closed.reading;
-    let answer = closed.answer;
-    told_with(crate::tell_sheet(answer), 0, reading)
+    let told = crate::tell_sheet(closed.answer);
+    told_with(told, 0, closed.reading)
 }

@@ -1,11 +1,9 @@
 -- The reading of a number byte by byte: which byte may follow under a limit, and what the text then says. That a text is read as a number exactly
--- where it is that number in decimal is in ReadingLaws.antt (`read_of_decimal`, `decimal_of_read`).
-use Rattle.std.specs.Prelude.{ℕ, zero, suc, ◌+◌, ◌*◌, ◌-◌, ◌≤◌, Bool, true, false, ◌&&◌, not, cond, List, [], ◌∷◌, leb, eqb, drop, pos, negsuc}
+-- where it is that number in decimal is in WholesLaws.antt (`read_of_decimal`, `decimal_of_read`).
+use Rattle.std.specs.Prelude.{ℕ, zero, suc, ◌+◌, ◌*◌, ◌-◌, ◌≤◌, Bool, true, false, ◌&&◌, not, cond, List, [], ◌∷◌, leb, eqb, drop, ℤ, pos, negsuc, Option, Some, None}
 use Rattle.text.specs.Fold.{run}
 use Rattle.text.specs.declared.Digits.{Digits}
 use Rattle.text.specs.declared.Digits.TheVariants.{Empty, Value, Bad}
-use Rattle.text.specs.declared.Whole.{Whole}
-use Rattle.text.specs.declared.Whole.TheVariants.{Is, Not}
 
 unfoldable pub is_digit : ℕ → Bool
 is_digit b = leb 48 b && leb b 57
@@ -37,21 +35,21 @@ Within limit (Value v) = v ≤ limit
 Within limit Bad = Unit {0}
 
 -- digits with no sign, and digits after a minus sign
-abbrev pub plus_of : Digits → Whole
-plus_of Empty = Not
-plus_of (Value v) = Is (pos v)
-plus_of Bad = Not
+abbrev pub plus_of : Digits → Option ℤ
+plus_of Empty = None
+plus_of (Value v) = Some (pos v)
+plus_of Bad = None
 
-abbrev pub minus_of : Digits → Whole
-minus_of Empty = Not
-minus_of (Value zero) = Not
-minus_of (Value (suc n)) = Is (negsuc n)
-minus_of Bad = Not
+abbrev pub minus_of : Digits → Option ℤ
+minus_of Empty = None
+minus_of (Value zero) = None
+minus_of (Value (suc n)) = Some (negsuc n)
+minus_of Bad = None
 
 abbrev pub minus_first : List ℕ → Bool
 minus_first [] = false
 minus_first (b ∷ bs) = eqb b 45
 
 -- the whole number of 64 bits that the text is in decimal
-unfoldable pub whole_of : List ℕ → Whole
+unfoldable pub whole_of : List ℕ → Option ℤ
 whole_of text = cond (minus_first text) (minus_of (digits_of 9223372036854775808 (drop 1 text))) (plus_of (digits_of 9223372036854775807 text))

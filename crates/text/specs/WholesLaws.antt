@@ -1,5 +1,5 @@
 -- A text is read as a number exactly where it is that number in decimal, and the number keeps the limit. Assumes nothing.
-use Rattle.std.specs.Prelude.{ℕ, zero, suc, ◌+◌, ◌*◌, ◌-◌, ◌/◌, ◌%◌, ◌≤◌, ◌<◌, ◌≡◌, refl, Bool, true, false, ◌&&◌, not, cond, List, [], ◌∷◌, ◌++◌, leb, eqb, ℤ, pos, negsuc, length, drop}
+use Rattle.std.specs.Prelude.{ℕ, zero, suc, ◌+◌, ◌*◌, ◌-◌, ◌/◌, ◌%◌, ◌≤◌, ◌<◌, ◌≡◌, refl, Bool, true, false, ◌&&◌, not, cond, List, [], ◌∷◌, ◌++◌, leb, eqb, ℤ, pos, negsuc, Some, length, drop}
 use Rattle.std.proofs.Common.{◌∙◌, ap, subst, append_assoc, append-nil, arith, leb-true, eqb-true, ne_eqb, le-leb, SFits}
 use Rattle.std.proofs.lemmas.Bool.{eqb-false}
 use Rattle.std.specs.Int.{w64}
@@ -9,7 +9,6 @@ use Rattle.text.specs.DecimalLaws.{one_digit, last_digit, push_digit, by_digits,
 use Rattle.text.specs.Wholes.{is_digit, may_follow, extended, step_digit, step_digits, digits_of, Within, minus_first, plus_of, minus_of, whole_of}
 use Rattle.text.specs.declared.Digits.{Digits}
 use Rattle.text.specs.declared.Digits.TheVariants.{Empty, Value, Bad}
-use Rattle.text.specs.declared.Whole.TheVariants.{Is}
 
 -- ---- tests of Bool, taken apart
 pub and_left : (a b : Bool) → (a && b) ≡ true → a ≡ true
@@ -154,7 +153,7 @@ plain = by_digits (λ n. Plain (decimal n))
     (λ d h. rw (one_digit d h) (ne_eqb (48 + d) 45 (omega arith), omega arith))
     (λ n h k. rw (last_digit n h) (plain_more (decimal (n / 10)) ((48 + n % 10) ∷ []) k))
 
-pub read_of_decimal : (z : ℤ) → SFits w64 z → whole_of (decimal_z z) ≡ Is z
+pub read_of_decimal : (z : ℤ) → SFits w64 z → whole_of (decimal_z z) ≡ Some z
 unfolding whole_of Plain
 read_of_decimal (pos n) f = let h = f.sfits in rw ((plain n).0, digits_complete 9223372036854775807 n (omega arith)) refl
 read_of_decimal (negsuc n) f = let h = f.sfits in rw (digits_complete 9223372036854775808 (suc n) (omega arith)) refl
@@ -164,14 +163,14 @@ pub record Read (text : List ℕ) (z : ℤ) : Type 0 where
   pub text_is : text ≡ decimal_z z
   pub fits : SFits w64 z
 
-plus_back : (d : Digits) (z : ℤ) (text : List ℕ) → ((v : ℕ) → d ≡ Value v → (text ≡ decimal v) × (v ≤ 9223372036854775807)) → plus_of d ≡ Is z → Read text z
+plus_back : (d : Digits) (z : ℤ) (text : List ℕ) → ((v : ℕ) → d ≡ Value v → (text ≡ decimal v) × (v ≤ 9223372036854775807)) → plus_of d ≡ Some z → Read text z
 plus_back Empty z text k e = absurd (let q : ◌≡◌ {A = ℕ} 0 1 = cc in omega arith)
 plus_back (Value v) z text k e =
     let q : pos v ≡ z = cc in
     subst (Read text) q (record { text_is = (k v refl).0; fits = record { sfits = omega (arith, (k v refl).1) } })
 plus_back Bad z text k e = absurd (let q : ◌≡◌ {A = ℕ} 0 1 = cc in omega arith)
 
-minus_back : (d : Digits) (z : ℤ) (text : List ℕ) → ((v : ℕ) → d ≡ Value v → (text ≡ 45 ∷ decimal v) × (v ≤ 9223372036854775808)) → minus_of d ≡ Is z → Read text z
+minus_back : (d : Digits) (z : ℤ) (text : List ℕ) → ((v : ℕ) → d ≡ Value v → (text ≡ 45 ∷ decimal v) × (v ≤ 9223372036854775808)) → minus_of d ≡ Some z → Read text z
 minus_back Empty z text k e = absurd (let q : ◌≡◌ {A = ℕ} 0 1 = cc in omega arith)
 minus_back (Value zero) z text k e = absurd (let q : ◌≡◌ {A = ℕ} 0 1 = cc in omega arith)
 minus_back (Value (suc n)) z text k e =
@@ -183,11 +182,11 @@ split_first : (text : List ℕ) → minus_first text ≡ true → text ≡ 45 �
 split_first [] e = absurd (let q : ◌≡◌ {A = Bool} false true = e in let r : ◌≡◌ {A = ℕ} 0 1 = cc in omega arith)
 split_first (b ∷ text) e = ap (λ (x : ℕ). x ∷ text) (eqb-true b 45 e)
 
-pub decimal_of_read : (text : List ℕ) (z : ℤ) → whole_of text ≡ Is z → Read text z
+pub decimal_of_read : (text : List ℕ) (z : ℤ) → whole_of text ≡ Some z → Read text z
 unfolding whole_of
 decimal_of_read text z e = go (minus_first text) refl e
   where
-    go : (t : Bool) → minus_first text ≡ t → cond t (minus_of (digits_of 9223372036854775808 (drop 1 text))) (plus_of (digits_of 9223372036854775807 text)) ≡ Is z → Read text z
+    go : (t : Bool) → minus_first text ≡ t → cond t (minus_of (digits_of 9223372036854775808 (drop 1 text))) (plus_of (digits_of 9223372036854775807 text)) ≡ Some z → Read text z
     go true q e =
         minus_back (digits_of 9223372036854775808 (drop 1 text)) z text
         (λ v h. let s = digits_sound 9223372036854775808 (drop 1 text) v h in (split_first text q ∙ ap (λ (x : List ℕ). 45 ∷ x) s.0, s.1)) e

@@ -4,13 +4,13 @@
 // written from its end, where there is room for it, so that no number is measured twice: `Stands`, which joins by `stands_before`.
 #![tactic(auto)]
 
-ghost use Rattle.std.specs.Prelude.{◌≡◌, Bool, ◌≤◌, List, [], ◌∷◌, ◌++◌, nat_abs, length};
+ghost use Rattle.std.specs.Prelude.{◌≡◌, Bool, ◌≤◌, List, [], ◌∷◌, ◌++◌, length};
 ghost use Rattle.text.specs.Decimal.{decimal, decimal_z};
 ghost use Rattle.text.specs.Wholes.{is_digit, may_follow, extended, step_digits, digits_of, Within, plus_of, minus_of, minus_first, whole_of};
-ghost use Rattle.text.specs.Put.{Put};
-ghost use Rattle.text.specs.Puts.{Stands};
+ghost use Rattle.text.specs.Puts.{Stands, Wrote};
 
 // What the digits of a text say so far.
+// stays: three states, where Option has two, and a step reads each of them.
 #[derive(Clone, Copy)]
 enum Digits {
     Empty,
@@ -18,47 +18,41 @@ enum Digits {
     Bad,
 }
 
-// A whole number of 64 bits, or something else.
-#[derive(Clone, Copy)]
-pub enum Whole {
-    Is(i64),
-    Not,
-}
-
 // Whether the byte is a decimal digit.
+#[tactic(auto, unfolding(crate::specs::Wholes::is_digit))]
 pub fn is_digit(b: u8) -> bool
     ensures { result ≡ is_digit b }
 {
-    if b < 48 { false } else { b <= 57 }
+    b.is_ascii_digit()
 }
 
 // Whether the digit d may follow the digits of v, or come first where none was seen: no zero in front, and the limit kept.
+#[tactic(auto, unfolding(crate::specs::Wholes::may_follow), using(crate::proofs::Signs::leb_less))]
 pub fn may_follow(limit: u64, seen: bool, v: u64, d: u8) -> bool
     ensures { result ≡ may_follow limit seen v d }
 {
-    if v > limit / 10 {
-        return false;
-    }
-    let last = d as u64;
+    let last = u64::from(d);
     if v == 0 {
-        if seen { false } else { last <= limit }
+        !seen && last <= limit
     } else {
-        last <= limit - 10 * v
+        v <= limit / 10 && last <= limit - 10 * v
     }
 }
 
 // The number with the digit d behind it, where it may follow.
+#[tactic(auto, unfolding(crate::specs::Wholes::extended), using(crate::specs::WholesLaws::follow_most))]
 fn extend(limit: u64, seen: bool, v: u64, d: u8) -> Digits
     ensures { result ≡ extended limit seen v d }
 {
     if may_follow(limit, seen, v, d) {
-        Digits::Value(10 * v + d as u64)
+        Digits::Value(10 * v + u64::from(d))
     } else {
         Digits::Bad
     }
 }
 
 // The digits with one byte more.
+#[tactic(auto, unfolding(crate::specs::Wholes::step_digits), using(crate::specs::WholesLaws::digit_range))]
 fn step_digits(limit: u64, s: Digits, b: u8) -> Digits
     ensures { result ≡ step_digits limit s b }
 {
@@ -77,39 +71,31 @@ fn read_digits(limit: u64, text: &[u8]) -> Digits
     ensures { result ≡ digits_of limit text.now }
 {
     let mut s = Digits::Empty;
-    let mut i = 0;
-    while i < text.len() {
-        s = step_digits(limit, s, text[i]);
-        i += 1;
+    for b in text {
+        s = step_digits(limit, s, *b);
     }
     s
 }
 
 // The number that digits with no sign say.
-fn plus(d: Digits) -> Whole
+fn plus(d: Digits) -> Option<i64>
     requires { Within 9223372036854775807 d }
     ensures { result ≡ plus_of d }
 {
     match d {
-        Digits::Empty => Whole::Not,
-        Digits::Value(v) => Whole::Is(v as i64),
-        Digits::Bad => Whole::Not,
+        Digits::Value(v) => Some(v as i64),
+        Digits::Empty | Digits::Bad => None,
     }
 }
 
 // The number that digits after a minus sign say: below zero.
-fn minus(d: Digits) -> Whole
+fn minus(d: Digits) -> Option<i64>
     requires { Within 9223372036854775808 d }
     ensures { result ≡ minus_of d }
 {
     match d {
-        Digits::Empty => Whole::Not,
-        Digits::Value(v) => if v == 0 {
-            Whole::Not
-        } else {
-            Whole::Is(-1 - (v - 1) as i64)
-        },
-        Digits::Bad => Whole::Not,
+        Digits::Empty | Digits::Value(0) | Digits::Bad => None,
+        Digits::Value(v) => Some(-1 - (v - 1) as i64),
     }
 }
 
@@ -117,14 +103,12 @@ fn minus(d: Digits) -> Whole
 pub fn minus_first(text: &[u8]) -> bool
     ensures { result ≡ minus_first text.now }
 {
-    if text.len() == 0 {
-        return false;
-    }
-    text[0] == 45
+    text.first() == Some(&45)
 }
 
 // The whole number that the text is in decimal.
-pub fn read_whole(text: &[u8]) -> Whole
+#[tactic(auto, unfolding(crate::specs::Wholes::whole_of), using(crate::specs::WholesLaws::within))]
+pub fn read_whole(text: &[u8]) -> Option<i64>
     ensures { result ≡ whole_of text.now }
 {
     if minus_first(text) {
@@ -133,70 +117,61 @@ pub fn read_whole(text: &[u8]) -> Whole
     plus(read_digits(9223372036854775807, text))
 }
 
-// The byte put at a place, where there is room for it. Answers the place after it.
-pub fn put_byte(b: u8, buf: &mut [u8], at: usize) -> usize
-    ensures { Put (b ∷ []) buf.old at result buf.new }
-{
-    if at < buf.len() {
-        buf[at] = b;
-        at + 1
-    } else {
-        buf.len()
-    }
+// A buffer that is written on from a place: the place after the last byte.
+// stays: bytes and no Display: what is promised is the bytes at the place, cut at the room, and that all others stay, which no formatter says.
+// stays: with no ghost field that the place is inside, since the entry `console::answer` takes any place; what needs it says so.
+#[derive(Drop)]
+pub struct Pen<'a> {
+    pub buf: &'a mut [u8],
+    pub at: usize,
 }
 
-// The text put at a place, as far as there is room. Answers the place after it.
-pub fn put_text(text: &[u8], buf: &mut [u8], at: usize) -> usize
-    ensures { Put text.now buf.old at result buf.new }
-{
-    if at > buf.len() {
-        return buf.len();
+impl Pen<'_> {
+    // One byte, where there is room for it.
+    pub fn put_byte(&mut self, b: u8)
+        ensures { Wrote (b ∷ []) self.old self.new }
+    {
+        if self.at < self.buf.len() {
+            self.buf[self.at] = b;
+            self.at += 1;
+        } else {
+            self.at = self.buf.len();
+        }
     }
-    let mut p = at;
-    let mut i = 0;
-    while i < text.len() {
-        p = put_byte(text[i], buf, p);
-        i += 1;
-    }
-    p
-}
 
-// The number put in decimal.
-pub fn put_decimal(n: u64, buf: &mut [u8], at: usize) -> usize
-    ensures { Put (decimal n) buf.old at result buf.new }
-{
-    if n < 10 {
-        put_byte(48 + n as u8, buf, at)
-    } else {
-        let next = put_decimal(n / 10, buf, at);
-        put_byte(48 + (n % 10) as u8, buf, next)
+    // A text, as far as there is room.
+    pub fn put_text(&mut self, text: &[u8])
+        ensures { Wrote text.now self.old self.new }
+    {
+        self.at = self.at.min(self.buf.len());
+        for b in text {
+            self.put_byte(*b);
+        }
     }
-}
 
-// The number without its sign.
-fn size(z: i64) -> u64
-    ensures { result ≡ nat_abs z }
-{
-    if z >= 0 {
-        signed::to_u64(z)
-    } else {
-        signed::gap(z, -1) + 1
+    // A number in decimal.
+    pub fn put_decimal(&mut self, n: u64)
+        ensures { Wrote (decimal n) self.old self.new }
+    {
+        if n >= 10 {
+            self.put_decimal(n / 10);
+        }
+        self.put_byte(48 + (n % 10) as u8);
     }
-}
 
-// The number put in decimal, a minus sign before it where it is below zero.
-pub fn put_whole(z: i64, buf: &mut [u8], at: usize) -> usize
-    ensures { Put (decimal_z z) buf.old at result buf.new }
-{
-    if z >= 0 {
-        put_decimal(size(z), buf, at)
-    } else {
-        let next = put_byte(45, buf, at);
-        put_decimal(size(z), buf, next)
+    // A number in decimal, a minus sign before it where it is below zero.
+    pub fn put_whole(&mut self, z: i64)
+        ensures { Wrote (decimal_z z) self.old self.new }
+    {
+        if z < 0 {
+            self.put_byte(45);
+        }
+        self.put_decimal(z.unsigned_abs());
     }
 }
 
 // How many digits a number has in decimal.
+// stays: a `while` over powers of ten, which counts no index; nor does the one below, whose digits come last first.
 pub fn count_digits(n: u64) -> usize
     ensures { (result ≡ length (decimal n)) × (result ≤ 20) }
 {
@@ -211,6 +186,7 @@ pub fn count_digits(n: u64) -> usize
 }
 
 // The byte put before a place. Answers where it stands.
+// stays: a buffer and a place, here and in `sheet_text::writing`, and no pen, which goes forward: a text that was counted is written from its end.
 pub fn end_with_byte(b: u8, buf: &mut [u8], end: usize) -> usize
     requires { (1 ≤ end) × (end ≤ length buf.old) }
     ensures { Stands (b ∷ []) buf.old result end buf.new }

@@ -3,11 +3,14 @@ use Prim.Native.Nat.{ℕ, ◌+◌, ◌*◌, ◌-◌, ◌/◌, ◌%◌, ◌^◌, 
 use mathlib.Core.Path.{◌≡◌, refl, sym, ◌∙◌, ap}
 use mathlib.Core.Bool.{Bool, true, false, ◌&&◌, not, cond, true≢false}
 use mathlib.Core.List.{List, [], ◌∷◌}
+use Rattle.std.specs.Prelude.{Some, None}
 use native.Mathlib.Omega.{arith}
 use borrow.Author.Tests.{leb-true, leb-false, eq-eqb, ne_eqb, eqb-true}
 use lib.Dec.{T, leb, eqb, le→leb}
 use lib.IntN.{pos}
 use lib.ListN.{length, get_or, take, drop, length-drop}
+use Rattle.std.proofs.Common.{add-one, drop-cons}
+use Rattle.std.proofs.Math.Seq.{drop-length}
 use lib.Seq.{take_all}
 use lib.Pow.{field}
 use lib.Bits.{bit_and, and_mask}
@@ -16,7 +19,7 @@ use lib.Ieee.Bits.{nan_bits_is}
 use Rattle.text.specs.Fold.{run}
 use Rattle.text.specs.Wholes.{is_digit, minus_first, may_follow}
 use Rattle.text.specs.WholesLaws.{and_left, and_right, digit_range}
-use Rattle.typed.specs.Typed.{takes, first_part, next_whole, next_fraction, step_part, part_of, Small, hex_digit, is_pattern}
+use Rattle.typed.specs.Typed.{takes, first_part, next_whole, next_fraction, step_part, part_of, Small, hex_digit, step_hex, is_pattern}
 use Rattle.typed.specs.declared.Part.{Part}
 use Rattle.typed.specs.declared.Part.TheVariants.{Start, Whole, Point, Fraction, Bad}
 
@@ -62,23 +65,21 @@ unfolding in_float
 in_float_lem m h = le→leb m 9007199254740992 (omega arith)
 
 -- ---- a byte among others
-pub among_least : (b lo hi : ℕ) → (leb lo b && leb b hi) ≡ true → lo ≤ b
-among_least b lo hi e = leb-true lo b (and_left (leb lo b) (leb b hi) e)
-
 among_most : (b lo hi : ℕ) → (leb lo b && leb b hi) ≡ true → b ≤ hi
 among_most b lo hi e =
     let q : leb lo b ≡ true = and_left (leb lo b) (leb b hi) e in
     leb-true b hi (rw q at e)
 
-hex_cond : (t u v : Bool) (b : ℕ) → (t ≡ true → b ≤ 57) → (u ≡ true → b ≤ 102) → (v ≡ true → b ≤ 70) → cond t (b - 48) (cond u (b - 87) (cond v (b - 55) 16)) ≤ 16
-hex_cond true u v b h k l = let q = h refl in omega arith
-hex_cond false true v b h k l = let q = k refl in omega arith
-hex_cond false false true b h k l = let q = l refl in omega arith
-hex_cond false false false b h k l = omega arith
+hex_cond : (t u v : Bool) (b d : ℕ) → (t ≡ true → b ≤ 57) → (u ≡ true → b ≤ 102) → (v ≡ true → b ≤ 70)
+    → cond t (Some (b - 48)) (cond u (Some (b - 87)) (cond v (Some (b - 55)) None)) ≡ Some d → d ≤ 15
+hex_cond true u v b d h k l e = let q = h refl in let z : b - 48 ≡ d = cc in omega arith
+hex_cond false true v b d h k l e = let q = k refl in let z : b - 87 ≡ d = cc in omega arith
+hex_cond false false true b d h k l e = let q = l refl in let z : b - 55 ≡ d = cc in omega arith
+hex_cond false false false b d h k l e = cc
 
-pub hex_most : (b : ℕ) → hex_digit b ≤ 16
+pub hex_most : (b d : ℕ) → hex_digit b ≡ Some d → d ≤ 15
 unfolding hex_digit
-hex_most b = hex_cond (leb 48 b && leb b 57) (leb 97 b && leb b 102) (leb 65 b && leb b 70) b (among_most b 48 57) (among_most b 97 102) (among_most b 65 70)
+hex_most b d = hex_cond (leb 48 b && leb b 57) (leb 97 b && leb b 102) (leb 65 b && leb b 70) b d (among_most b 48 57) (among_most b 97 102) (among_most b 65 70)
 
 -- ---- a pattern's first byte
 pub is_no : (l : List ℕ) → (length l ≡ 17 → ⊥) → false ≡ is_pattern l
@@ -104,8 +105,8 @@ nan_is b = ap (λ (k : ℕ). eqb k 2047 && not (eqb (b % 2 ^ 52) 0)) (sym (field
 pub nan_yes : (b : ℕ) → bit_and (b / 2 ^ 52) 2047 ≡ 2047 → not (eqb (bit_and b 4503599627370495) 0) ≡ nan_bits binary64 b
 nan_yes b h = sym (nan_is b ∙ ap (λ (t : Bool). t && not (eqb (bit_and b 4503599627370495) 0)) (eq-eqb (bit_and (b / 2 ^ 52) 2047) 2047 h))
 
-pub nan_no : (b : ℕ) → (bit_and (b / 2 ^ 52) 2047 ≡ 2047 → ⊥) → false ≡ nan_bits binary64 b
-nan_no b h = sym (nan_is b ∙ ap (λ (t : Bool). t && not (eqb (bit_and b 4503599627370495) 0)) (ne_eqb (bit_and (b / 2 ^ 52) 2047) 2047 h))
+pub nan_no : (b : ℕ) → (bit_and (b / 2 ^ 52) 2047 ≡ 2047 → ⊥) → eqb (bit_and (b / 2 ^ 52) 2047) 2047 ≡ nan_bits binary64 b
+nan_no b h = rw (nan_is b, ne_eqb (bit_and (b / 2 ^ 52) 2047) 2047 h) refl
 
 one_nan : (x : Float) → is_nan x ≡ true → nan ≡ x
 unfolding is_nan
@@ -128,6 +129,10 @@ pub first_long : (l : List ℕ) → minus_first l ≡ true → 1 ≤ length l
 first_long [] e = absurd (true≢false (sym e))
 first_long (b ∷ l) e = omega arith
 
+-- ---- a digit's byte
+pub digit_least : (b : ℕ) → is_digit b ≡ true → 48 ≤ b
+digit_least b e = (digit_range b e).0
+
 -- ---- where no digit counts as seen, any may follow that keeps the limit
 pub unseen : (limit v d : ℕ) → may_follow limit false v d ≡ leb (10 * v + d) limit
 unfolding may_follow
@@ -136,3 +141,14 @@ unseen limit v d = go (eqb v 0)
     go : (t : Bool) → (not (t && false) && leb (10 * v + d) limit) ≡ leb (10 * v + d) limit
     go true = refl
     go false = refl
+
+-- ---- a machine over what is left of a text
+pub run_next : {S : Type 0} (f : S → ℕ → S) (s : S) (l : List ℕ) (i : ℕ) → i < length l → run f s (drop i l) ≡ run f (f s (get_or l i 0)) (drop (i + 1) l)
+run_next f s l i h = rw (add-one i, drop-cons l i 0 h) refl
+
+pub run_end : {S : Type 0} (f : S → ℕ → S) (s : S) (l : List ℕ) → run f s (drop (length l) l) ≡ s
+run_end f s l = rw (drop-length l) refl
+
+pub hex_stays : (l : List ℕ) → run step_hex None l ≡ None
+hex_stays [] = refl
+hex_stays (b ∷ l) = hex_stays l

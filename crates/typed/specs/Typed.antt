@@ -1,16 +1,12 @@
 -- A typed number as text (docs/PROGRAM.md): digits with an optional minus sign and an optional point, at most 15 of them significant and at most 22 after the point,
 -- read as one division rounds; or `x` and the 16 hexadecimal digits of a bit pattern. That w.f with k decimals is read as w·10^k + f over 10^k is in TypedLaws.antt.
-use Rattle.std.specs.Prelude.{ℕ, ◌+◌, ◌*◌, ◌-◌, ◌<◌, ◌^◌, Bool, true, false, ◌&&◌, cond, List, ltb, leb, eqb, drop, get_or, length, pos, Float}
+use Rattle.std.specs.Prelude.{ℕ, ◌+◌, ◌*◌, ◌-◌, ◌<◌, ◌^◌, Bool, true, false, ◌&&◌, cond, List, ltb, leb, eqb, drop, get_or, length, pos, Float, Option, Some, None}
 use Rattle.std.specs.Float.{binary64}
 use Rattle.std.specs.Float.Ieee.{div, neg, of_int, of_bits}
 use Rattle.text.specs.Fold.{run}
 use Rattle.text.specs.Wholes.{is_digit, minus_first}
 use Rattle.typed.specs.declared.Part.{Part}
 use Rattle.typed.specs.declared.Part.TheVariants.{Start, Whole, Point, Fraction, Bad}
-use Rattle.typed.specs.declared.Number.{Number}
-use Rattle.typed.specs.declared.Number.TheVariants.{Is, Not}
-use Rattle.typed.specs.declared.Hex.{Hex}
-use Rattle.typed.specs.declared.Hex.TheVariants.{Value as HexValue, Bad as HexBad}
 
 -- a digit that keeps the digits of m at 15 significant ones
 unfoldable pub takes : ℕ → ℕ → Bool
@@ -56,45 +52,46 @@ with_sign true x = neg x
 with_sign false x = x
 
 -- the number that the parts say: digits on both sides of a point, if there is one
-abbrev pub finish_of : Bool → Part → Number
-finish_of s Start = Not
-finish_of s (Whole m) = Is (with_sign s (quotient_of m 0))
-finish_of s (Point m) = Not
-finish_of s (Fraction m k) = Is (with_sign s (quotient_of m k))
-finish_of s Bad = Not
+abbrev pub finish_of : Bool → Part → Option Float
+finish_of s Start = None
+finish_of s (Whole m) = Some (with_sign s (quotient_of m 0))
+finish_of s (Point m) = None
+finish_of s (Fraction m k) = Some (with_sign s (quotient_of m k))
+finish_of s Bad = None
 
 -- with or without a minus sign
-unfoldable pub decimal_of : List ℕ → Number
+unfoldable pub decimal_of : List ℕ → Option Float
 decimal_of text = cond (minus_first text) (finish_of true (part_of (drop 1 text))) (finish_of false (part_of text))
 
--- the value of a hexadecimal digit, 16 where it is none
-unfoldable pub hex_digit : ℕ → ℕ
+-- the value of a hexadecimal digit
+unfoldable pub hex_digit : ℕ → Option ℕ
 hex_digit b =
-    cond (leb 48 b && leb b 57) (b - 48)
-    (cond (leb 97 b && leb b 102) (b - 87)
-    (cond (leb 65 b && leb b 70) (b - 55) 16))
+    cond (leb 48 b && leb b 57) (Some (b - 48))
+    (cond (leb 97 b && leb b 102) (Some (b - 87))
+    (cond (leb 65 b && leb b 70) (Some (b - 55)) None))
 
 -- one digit more of a bit pattern
-abbrev pub next_hex : Hex → ℕ → Hex
-next_hex (HexValue v) d = cond (ltb v 1152921504606846976) (HexValue (16 * v + d)) HexBad
-next_hex HexBad d = HexBad
+abbrev pub next_hex : ℕ → Option ℕ → Option ℕ
+next_hex v (Some d) = cond (ltb v 1152921504606846976) (Some (16 * v + d)) None
+next_hex v None = None
 
-unfoldable pub step_hex : Hex → ℕ → Hex
-step_hex s b = cond (eqb (hex_digit b) 16) HexBad (next_hex s (hex_digit b))
+abbrev pub step_hex : Option ℕ → ℕ → Option ℕ
+step_hex (Some v) b = next_hex v (hex_digit b)
+step_hex None b = None
 
 -- the bits that the digits are
-unfoldable pub hex_of : List ℕ → Hex
-hex_of text = run step_hex (HexValue 0) text
+unfoldable pub hex_of : List ℕ → Option ℕ
+hex_of text = run step_hex (Some 0) text
 
 -- the float of a bit pattern
-abbrev pub pattern_of : Hex → Number
-pattern_of (HexValue v) = Is (of_bits binary64 v)
-pattern_of HexBad = Not
+abbrev pub pattern_of : Option ℕ → Option Float
+pattern_of (Some v) = Some (of_bits binary64 v)
+pattern_of None = None
 
 -- x and 16 more bytes
 unfoldable pub is_pattern : List ℕ → Bool
 is_pattern text = eqb (length text) 17 && eqb (get_or text 0 0) 120
 
 -- the number that a text is
-unfoldable pub number_of : List ℕ → Number
+unfoldable pub number_of : List ℕ → Option Float
 number_of text = cond (is_pattern text) (pattern_of (hex_of (drop 1 text))) (decimal_of text)

@@ -2,35 +2,22 @@
 // its bits. Every function takes every text and promises an equation with specs/Typed.antt. An inner door as a whole: the console above reads answers by it.
 #![tactic(auto)]
 
-ghost use Rattle.std.specs.Prelude.{◌≡◌, ◌&&◌, ◌<◌, ◌^◌, leb, pos};
+ghost use Rattle.std.specs.Prelude.{◌≡◌, ◌&&◌, ◌<◌, ◌^◌, leb, pos, Some};
 ghost use Rattle.std.specs.Float.{binary64};
 ghost use Rattle.std.specs.Float.Ieee.{of_int, of_bits, nan_bits};
-ghost use Rattle.typed.specs.Typed.{takes as Typed·takes, first_part, next_whole, next_fraction, step_part, part_of, Small, quotient_of, with_sign, finish_of, decimal_of, hex_digit, step_hex, hex_of, pattern_of, is_pattern, number_of};
+ghost use Rattle.typed.specs.Typed.{takes as Typed·takes, first_part, next_whole, next_fraction, step_part, part_of, Small, quotient_of, with_sign, finish_of, decimal_of, hex_digit, step_hex, hex_of, is_pattern, number_of};
 
 // At most 15 significant digits: all such whole numbers are floats.
 const MOST: u64 = 999_999_999_999_999;
 
+// stays: an enum of its own, for its five states.
 // A decimal number so far: its digits as one number, and how many of them stand after the point.
 #[derive(Clone, Copy)]
 enum Part {
     Start,
     Whole(u64),
     Point(u64),
-    Fraction(u64, u64),
-    Bad,
-}
-
-// The number that a text is, if it is one.
-#[derive(Clone, Copy)]
-pub enum Number {
-    Is(f64),
-    Not,
-}
-
-// The bits that hexadecimal digits say so far.
-#[derive(Clone, Copy)]
-enum Hex {
-    Value(u64),
+    Fraction(u64, usize),
     Bad,
 }
 
@@ -62,29 +49,27 @@ const TENS: [f64; 23] = [
 ];
 
 // Whether the byte is a digit that may follow the digits of m.
+#[tactic(auto, using(crate::proofs::Parts::digit_least, crate::proofs::Parts::unseen), unfolding(crate::specs::Typed::takes))]
 fn takes(m: u64, b: u8) -> bool
     ensures { result ≡ Typed·takes m b }
 {
-    if text::is_digit(b) {
-        text::may_follow(MOST, false, m, b - 48)
-    } else {
-        false
-    }
+    text::is_digit(b) && text::may_follow(MOST, false, m, b - 48)
 }
 
 // The number after its first byte.
+#[tactic(auto, using(crate::proofs::Parts::taken_digit), unfolding(crate::specs::Typed::first_part))]
 fn first_part(b: u8) -> Part
     ensures { result ≡ first_part b }
 {
     if takes(0, b) {
-        Part::Whole(b as u64 - 48)
+        Part::Whole(u64::from(b - 48))
     } else {
         Part::Bad
     }
 }
 
 // One byte more before the point.
-#[tactic(auto, unfolding(crate::specs::Typed::next_whole))]
+#[tactic(auto, using(crate::proofs::Parts::taken_digit, crate::proofs::Parts::taken_most), unfolding(crate::specs::Typed::next_whole))]
 fn next_whole(m: u64, b: u8) -> Part
     ensures { result ≡ next_whole m b }
 {
@@ -92,22 +77,22 @@ fn next_whole(m: u64, b: u8) -> Part
         return Part::Point(m);
     }
     if takes(m, b) {
-        Part::Whole(10 * m + (b as u64 - 48))
+        Part::Whole(10 * m + u64::from(b - 48))
     } else {
         Part::Bad
     }
 }
 
 // One byte more after the point, where k digits stand.
-#[tactic(auto, unfolding(crate::specs::Typed::next_fraction))]
-fn next_fraction(m: u64, k: u64, b: u8) -> Part
+#[tactic(auto, using(crate::proofs::Parts::taken_digit, crate::proofs::Parts::taken_most), unfolding(crate::specs::Typed::next_fraction))]
+fn next_fraction(m: u64, k: usize, b: u8) -> Part
     ensures { result ≡ next_fraction m k b }
 {
     if k >= 22 {
         return Part::Bad;
     }
     if takes(m, b) {
-        Part::Fraction(10 * m + (b as u64 - 48), k + 1)
+        Part::Fraction(10 * m + u64::from(b - 48), k + 1)
     } else {
         Part::Bad
     }
@@ -127,14 +112,13 @@ fn step_part(s: Part, b: u8) -> Part
 }
 
 // The parts of a text with no sign.
+#[tactic(auto, using(crate::proofs::Parts::run_next, crate::proofs::Parts::run_end), unfolding(crate::specs::Typed::part_of))]
 fn read_part(text: &[u8]) -> Part
     ensures { result ≡ part_of text.now }
 {
     let mut s = Part::Start;
-    let mut i = 0;
-    while i < text.len() {
-        s = step_part(s, text[i]);
-        i += 1;
+    for b in text {
+        s = step_part(s, *b);
     }
     s
 }
@@ -148,12 +132,13 @@ fn ten_to(k: usize) -> f64
 }
 
 // m over 10^k, rounded once.
-fn quotient(m: u64, k: u64) -> f64
-    requires fact_1 { m < 1000000000000000 }
-    requires fact_2 { k < 23 }
+#[tactic(auto, using(crate::proofs::Parts::in_float_lem), unfolding(crate::specs::Typed::quotient_of))]
+fn quotient(m: u64, k: usize) -> f64
+    requires digits { m < 1000000000000000 }
+    requires places { k < 23 }
     ensures { result ≡ quotient_of m k }
 {
-    (m as f64) / ten_to(k as usize)
+    m as f64 / ten_to(k)
 }
 
 // The number with its sign.
@@ -164,21 +149,20 @@ fn with_sign(negative: bool, x: f64) -> f64
 }
 
 // The number that its parts say.
-fn finish(negative: bool, s: Part) -> Number
+fn finish(negative: bool, s: Part) -> Option<f64>
     requires { Small s }
     ensures { result ≡ finish_of negative s }
 {
     match s {
-        Part::Start => Number::Not,
-        Part::Whole(m) => Number::Is(with_sign(negative, quotient(m, 0))),
-        Part::Point(_) => Number::Not,
-        Part::Fraction(m, k) => Number::Is(with_sign(negative, quotient(m, k))),
-        Part::Bad => Number::Not,
+        Part::Whole(m) => Some(with_sign(negative, quotient(m, 0))),
+        Part::Fraction(m, k) => Some(with_sign(negative, quotient(m, k))),
+        Part::Start | Part::Point(_) | Part::Bad => None,
     }
 }
 
 // The number that a text is in decimal.
-fn read_decimal(text: &[u8]) -> Number
+#[tactic(auto, using(crate::proofs::Parts::small, crate::proofs::Parts::first_long, crate::proofs::Parts::tail_is), unfolding(crate::specs::Typed::decimal_of))]
+fn read_decimal(text: &[u8]) -> Option<f64>
     ensures { result ≡ decimal_of text.now }
 {
     if text::minus_first(text) {
@@ -187,70 +171,52 @@ fn read_decimal(text: &[u8]) -> Number
     finish(false, read_part(text))
 }
 
-// Whether the byte lies from lo to hi.
-fn among(b: u8, lo: u8, hi: u8) -> bool
-    ensures { result ≡ (leb lo b && leb b hi) }
-{
-    if b < lo { false } else { b <= hi }
-}
-
-// A hexadecimal digit's value, 16 where it is none.
-fn hex_digit(b: u8) -> u8
+// A hexadecimal digit's value.
+#[tactic(auto, unfolding(crate::specs::Typed::hex_digit))]
+fn hex_digit(b: u8) -> Option<u8>
     ensures { result ≡ hex_digit b }
 {
-    if among(b, 48, 57) {
-        return b - 48;
+    match b {
+        b'0'..=b'9' => Some(b - b'0'),
+        b'a'..=b'f' => Some(b - b'a' + 10),
+        b'A'..=b'F' => Some(b - b'A' + 10),
+        _ => None,
     }
-    if among(b, 97, 102) {
-        return b - 87;
-    }
-    if among(b, 65, 70) {
-        return b - 55;
-    }
-    16
 }
 
 // One hexadecimal digit more.
-fn step_hex(s: Hex, b: u8) -> Hex
-    ensures { result ≡ step_hex s b }
+#[tactic(auto, using(crate::proofs::Parts::hex_most))]
+fn step_hex(v: u64, b: u8) -> Option<u64>
+    ensures { result ≡ step_hex (Some v) b }
 {
-    let d = hex_digit(b) as u64;
-    if d == 16 {
-        return Hex::Bad;
-    }
-    match s {
-        Hex::Value(v) => if v < 1152921504606846976 {
-            Hex::Value(16 * v + d)
-        } else {
-            Hex::Bad
-        },
-        Hex::Bad => Hex::Bad,
-    }
+    let d = hex_digit(b)?;
+    Some(v.checked_mul(16)? + u64::from(d))
 }
 
 // The bits that hexadecimal digits are.
-fn read_hex(text: &[u8]) -> Hex
+#[tactic(auto, using(crate::proofs::Parts::run_next, crate::proofs::Parts::run_end, crate::proofs::Parts::hex_stays), unfolding(crate::specs::Typed::hex_of))]
+fn read_hex(text: &[u8]) -> Option<u64>
     ensures { result ≡ hex_of text.now }
 {
-    let mut s = Hex::Value(0);
-    let mut i = 0;
-    while i < text.len() {
-        s = step_hex(s, text[i]);
-        i += 1;
+    let mut v = 0;
+    for b in text {
+        v = step_hex(v, *b)?;
     }
-    s
+    Some(v)
 }
 
 // Whether the bits are those of a NaN.
+#[tactic(auto, using(crate::proofs::Parts::nan_yes, crate::proofs::Parts::nan_no))]
 fn nan_bits(bits: u64) -> bool
     ensures { result ≡ nan_bits binary64 bits }
 {
     let field = (bits >> 52) & 0x7ff;
     let digits = bits & 0xf_ffff_ffff_ffff;
-    if field == 2047 { digits != 0 } else { false }
+    field == 2047 && digits != 0
 }
 
 // The float of a bit pattern; each NaN pattern is the NaN.
+#[tactic(auto, using(crate::proofs::Parts::nan_value, crate::proofs::Parts::from_asks))]
 fn of_bits(bits: u64) -> f64
     ensures { result ≡ of_bits binary64 bits }
 {
@@ -261,33 +227,21 @@ fn of_bits(bits: u64) -> f64
     f64::from_bits(bits)
 }
 
-// The number of a bit pattern.
-fn pattern(s: Hex) -> Number
-    ensures { result ≡ pattern_of s }
-{
-    match s {
-        Hex::Value(v) => Number::Is(of_bits(v)),
-        Hex::Bad => Number::Not,
-    }
-}
-
 // Whether the text is `x` and 16 more bytes.
 #[tactic(auto, unfolding(crate::specs::Typed::is_pattern))]
 fn is_pattern(text: &[u8]) -> bool
     ensures { result ≡ is_pattern text.now }
 {
-    if text.len() != 17 {
-        return false;
-    }
-    text[0] == 120
+    text.len() == 17 && text[0] == 120
 }
 
 // A typed number: x and 16 hexadecimal digits, or a decimal number.
-pub fn read_number(text: &[u8]) -> Number
+#[tactic(auto, using(crate::proofs::Parts::long_pattern, crate::proofs::Parts::tail_is), unfolding(crate::specs::Typed::number_of))]
+pub fn read_number(text: &[u8]) -> Option<f64>
     ensures { result ≡ number_of text.now }
 {
     if is_pattern(text) {
-        return pattern(read_hex(&text[1..]));
+        return Some(of_bits(read_hex(&text[1..])?));
     }
     read_decimal(text)
 }

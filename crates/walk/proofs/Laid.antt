@@ -2,40 +2,25 @@
 -- Assumes nothing.
 use mathlib.Core.Path.{◌≡◌, ap, ◌∙◌}
 use mathlib.Core.List.{List, [], ◌∷◌, ◌++◌, append_assoc, append-nil}
-use Prim.Native.Nat.{ℕ, suc, ◌+◌, ◌-◌, ◌≤◌, ◌<◌}
+use Prim.Native.Nat.{ℕ, suc, ◌-◌, ◌≤◌, ◌<◌}
 use native.Mathlib.Nat.{le_refl}
 use native.Mathlib.Numerals.{add-one}
 use native.Mathlib.Omega.{arith}
 use lib.ListN.{length, get_or, take, drop, set, length-append, length-drop, drop_of_length-le}
-use lib.Seq.{take_all, take_at, drop_at, drop-drop, length-take-le, set_at, drop-cons}
+use lib.Seq.{take_all, take_at, drop_at, drop-drop, set_at, drop-cons}
 use Rattle.walk.specs.Lists.{laid}
 
 module _ {A : Type 0} where
   -- what is lent of `&mut s[a..]`
-  pub lent : (a : ℕ) (xs : List A) → take (length xs - a) (drop a xs) ≡ drop a xs
+  lent : (a : ℕ) (xs : List A) → take (length xs - a) (drop a xs) ≡ drop a xs
   lent a xs = take_all (length xs - a) (drop a xs) (simp length-drop (le_refl (length xs - a)))
 
-  pub length_lent : (a : ℕ) (xs : List A) → length (take (length xs - a) (drop a xs)) ≡ length xs - a
-  length_lent a xs = ap length (lent a xs) ∙ length-drop a xs
-
-  -- a part that starts at a has room for n places
-  pub lent_room : (a n : ℕ) (xs : List A) → a + n ≤ length xs → n ≤ length (take (length xs - a) (drop a xs))
-  lent_room a n xs h = simp length_lent (omega arith)
-
   -- the whole, once the part has come back at ys
-  pub back : (a : ℕ) (xs ys : List A) → take a xs ++ (ys ++ drop (length xs - a) (drop a xs)) ≡ take a xs ++ ys
+  back : (a : ℕ) (xs ys : List A) → take a xs ++ (ys ++ drop (length xs - a) (drop a xs)) ≡ take a xs ++ ys
   back a xs ys =
       let h : length (drop a xs) ≤ length xs - a = simp length-drop (le_refl (length xs - a)) in
       let e : drop (length xs - a) (drop a xs) ≡ [] = drop_of_length-le (drop a xs) h in
       simp (e, append-nil)
-
-  -- it is as long as it was
-  pub length_back : (a : ℕ) (xs ys : List A) → a ≤ length xs → length ys ≡ length (take (length xs - a) (drop a xs)) →
-      length (take a xs ++ (ys ++ drop (length xs - a) (drop a xs))) ≡ length xs
-  length_back a xs ys h e =
-      let k : length ys ≡ length xs - a = e ∙ length_lent a xs in
-      let t : length (take a xs) ≡ a = length-take-le a xs h in
-      ap length (back a xs ys) ∙ simp (length-append, t, k) (omega arith)
 
   -- the whole, where the callee wrote the part's first places
   pub back_laid : (a : ℕ) (xs us ys : List A) → ys ≡ laid us (take (length xs - a) (drop a xs)) →

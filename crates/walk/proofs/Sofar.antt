@@ -8,22 +8,23 @@ use lib.IntN.{ℤ, pos}
 use lib.ListN.{length, take, drop, set, length-append, length-set, take-append-drop, length-map}
 use lib.Seq.{drop-drop}
 use Rattle.signed.specs.Zed.{plain}
-use Rattle.refusal.specs.Refusals.{Told, gives, refused, number_of}
+use Rattle.std.specs.Prelude.{None, Some, Ok, Err}
+use Rattle.refusal.specs.declared.Refusal.{Refusal}
+use Rattle.refusal.specs.Refusals.{Told, gives, refused, numbered, number_of}
 use Rattle.air.specs.Limits.{look_places}
 use Rattle.air.specs.Halving.{eleven}
 use Rattle.gas.specs.declared.Heat.{Heat}
-use Rattle.burning.specs.Burning.{document01}
+use Rattle.burning.specs.Burning.{document01, charge_of}
 use Rattle.walk.specs.Limits.{step_numbers}
-use Rattle.walk.specs.declared.WalkAnswer.{WalkAnswer}
+use Rattle.walk.specs.declared.Course.{Course as CourseBack}
 use Rattle.walk.specs.declared.stepping.Standing.{Standing}
-use Rattle.walk.specs.declared.stepping.Stepped.{Stepped}
-use Rattle.walk.specs.declared.stepping.Stepped.TheVariants.{Done, Refused}
 use Rattle.walk.specs.Lists.{lists, laid}
 use Rattle.walk.specs.declared.Step.{Step}
 use Rattle.walk.specs.Step.{step_in, State, Out, judge}
-use Rattle.walk.specs.Walk.{steps_of, run, onward, Trace, ended, cut, more, course_of, paper_walk, Walks, temperatures_of, rests_of, looks_of}
-use Rattle.walk.specs.inner.Work.{state_of, Stands, step_no, Shown, StandsAfter, ready, StepGives}
+use Rattle.walk.specs.Walk.{steps_of, run, onward, Trace, ended, cut, more, course_of, course_with, paper_course, Walks, temperatures_of, rests_of, looks_of}
+use Rattle.walk.specs.inner.Work.{state_of, Stands, step_no, Shown, StepGives}
 use Rattle.walk.specs.Demand3Laws.{eleven_places}
+use Rattle.walk.specs.Demand1Laws.{step_placeless}
 use Rattle.walk.specs.RunLaws.{step_done}
 use Rattle.walk.proofs.Halves.{mk_range}
 use Rattle.walk.proofs.Laid.{laid_part, laid_set, length_laid, back_laid}
@@ -37,23 +38,19 @@ pub record WasDone (j : Told Out) (l : List ℕ) (s : List ℕ) (st : Standing) 
   pub looks : l' ≡ laid (eleven out.seen) l
   pub stands : Stands s st
 
-stands_of : {s : List ℕ} {st : Standing} {rest : Heat} → StandsAfter s (Done st rest) → Stands s st
-stands_of (ready h) = h
-
 same_values : {A : Type 0} {a b : A} → gives a ≡ gives b → a ≡ b
 same_values {A} {a} {b} e = cc
 
-pub was_done : (j : Told Out) {s l : List ℕ} (st : Standing) (rest : Heat) (l' : List ℕ) → StepGives j s l (Done st rest) l' → WasDone j l s st rest l'
+pub was_done : (j : Told Out) {s l : List ℕ} (st : Standing) (rest : Heat) (l' : List ℕ) → StepGives j s l (Ok (st, rest)) l' → WasDone j l s st rest l'
 was_done (gives o) st rest l' g =
     let e = same_values g.told in
-    record { out = o; judged = refl; state = sym (ap (λ (x : Shown). x.state) e); rests = sym (ap (λ (x : Shown). x.rests) e); looks = g.looks; stands = stands_of g.stands }
+    record { out = o; judged = refl; state = sym (ap (λ (x : Shown). x.state) e); rests = sym (ap (λ (x : Shown). x.rests) e); looks = g.looks; stands = g.stands }
 was_done (refused r) st rest l' g = absurd (let e = g.told in let z : ◌≡◌ {A = ℕ} 0 1 = cc in omega arith)
 
 -- a refused step: the walk goes no further, and its looks are as they were
-pub was_refused : (j : Told Out) {s l : List ℕ} (n : ℕ) (l' : List ℕ) → StepGives j s l (Refused n) l'
-    → ((st : State) (k : State → Trace) → onward st j k ≡ record { outs = []; end = cut n st }) × (l' ≡ l)
-was_refused (gives o) n l' g = absurd (let e = g.told in let z : ◌≡◌ {A = ℕ} 0 1 = cc in omega arith)
-was_refused (refused r) n l' g = (λ st k. let e = g.told in let q : number_of r ≡ n = cc in rw q refl, g.looks)
+pub was_refused : (j : Told Out) {s l : List ℕ} (k : Refusal) (l' : List ℕ) → StepGives j s l (Err k) l' → (j ≡ refused (numbered k)) × (l' ≡ l)
+was_refused (gives o) k l' g = absurd (let e = g.told in let z : ◌≡◌ {A = ℕ} 0 1 = cc in omega arith)
+was_refused (refused r) k l' g = (let e = g.told in cc, g.looks)
 
 -- ---- the steps by index
 -- the outputs of steps before those of a trace
@@ -168,33 +165,45 @@ module _ (s : List ℕ) (start : State) (n : ℕ) (numbers t₀ r₀ : List ℤ)
     with_out o ys next x y e p k u v b = rw (back_laid (look_places * i) l (eleven o.seen) ys b, u, v) (forth o next e p k)
 
     -- what a call of `step` says, which was lent the part of the looks from 11 * i on and left it at ys; x and y are what was stored
-    pub turned : (p : Step) → p ≡ step_no numbers i → (a : Stepped) (ys : List ℕ) (next : Standing) (rest : Heat) (x y : ℤ) → a ≡ Done next rest → x ≡ next.t.0 → y ≡ rest.0 →
-        StepGives (judge document01 s (state_of st) p) s (take (length l - look_places * i) (drop (look_places * i) l)) a ys →
+    pub turned : (p : Step) → p ≡ step_no numbers i → (ys : List ℕ) (next : Standing) (rest : Heat) (x y : ℤ) → x ≡ next.t.0 → y ≡ rest.0 →
+        StepGives (judge document01 s (state_of st) p) s (take (length l - look_places * i) (drop (look_places * i) l)) (Ok (next, rest)) ys →
         Sofar (set t i x) (set r i y) (take (look_places * i) l ++ (ys ++ drop (length l - look_places * i) (drop (look_places * i) l))) next (i + 1)
-    turned p g a ys next rest x y e u v w1 =
-        let w = was_done j next rest ys (rw (g, e) at w1) in
+    turned p g ys next rest x y u v w1 =
+        let w = was_done j next rest ys (rw g at w1) in
         with_out w.out ys next x y w.judged w.state w.stands
         (u ∙ plain (mk_range next.t.0 w.stands.covered).2 ∙ ap (λ (q : State). pos q.mk) (sym w.state)) (v ∙ sym w.rests) w.looks
 
-    pub halted : (p : Step) → p ≡ step_no numbers i → (a : Stepped) (ys : List ℕ) (k : ℕ) (b : WalkAnswer) → a ≡ Refused k → paper_walk b ≡ gives (course_of i (cut k (state_of st))) →
-        StepGives (judge document01 s (state_of st) p) s (take (length l - look_places * i) (drop (look_places * i) l)) a ys →
-        Walks (gives (run document01 s start (steps_of n numbers))) (lists t₀ r₀ l₀) b (lists t r (take (look_places * i) l ++ (ys ++ drop (length l - look_places * i) (drop (look_places * i) l))))
-    halted p g a ys k b e q w1 =
-        let w = was_refused j k ys (rw (g, e) at w1) in
+    pub halted : (p : Step) → p ≡ step_no numbers i → (ys : List ℕ) (k : Refusal) (c : CourseBack)
+        → paper_course c ≡ course_with i (charge_of st.gas) (pos (state_of st).mk) (Some k) → c.stop ≡ Some k
+        → StepGives (judge document01 s (state_of st) p) s (take (length l - look_places * i) (drop (look_places * i) l)) (Err k) ys
+        → Walks (gives (run document01 s start (steps_of n numbers))) (lists t₀ r₀ l₀) (Ok c)
+        (lists t r (take (look_places * i) l ++ (ys ++ drop (length l - look_places * i) (drop (look_places * i) l))))
+    halted p g ys k c q m w1 =
+        let w = was_refused j k ys (rw g at w1) in
         let os = f.outs in
         let u : take (look_places * i) l ++ (ys ++ drop (length l - look_places * i) (drop (look_places * i) l)) ≡ l = back_laid (look_places * i) l [] ys w.1 ∙ take-append-drop (look_places * i) l in
-        let v : run document01 s start (steps_of n numbers) ≡ record { outs = os; end = cut k (state_of st) } =
-        f.ran ∙ ap (ahead os) (turn ∙ w.0 (state_of st) _) ∙ ap (λ (x : List Out). record { outs = x; end = cut k (state_of st) }) (append-nil os) in
-        rw (u, v) (record { answer = q ∙ ap (λ (m : ℕ). gives (course_of m (cut k (state_of st)))) (sym f.count); lent = rw (f.temperatures, f.rests, f.looks) refl })
+        let v : run document01 s start (steps_of n numbers) ≡ record { outs = os; end = cut (number_of (numbered k)) (state_of st) } =
+        f.ran ∙ ap (ahead os) (turn ∙ ap (λ (x : Told Out). onward (state_of st) x (λ q. run document01 s q (steps_of (n - (i + 1)) (drop (step_numbers * (i + 1)) numbers)))) w.0)
+        ∙ ap (λ (x : List Out). record { outs = x; end = cut (number_of (numbered k)) (state_of st) }) (append-nil os) in
+        rw (u, v) (record {
+          answer = ap gives q ∙ ap (λ (m : ℕ). gives (course_of m (cut (number_of (numbered k)) (state_of st)))) (sym f.count);
+          lent = rw (f.temperatures, f.rests, f.looks) refl;
+          no_place = rw m (step_placeless document01 s (state_of st) (step_no numbers i) (numbered k) w.0);
+        })
 
-  pub finish : (t r : List ℤ) (l : List ℕ) (st : Standing) (i : ℕ) (b : WalkAnswer) → Sofar t r l st i → n ≤ i → paper_walk b ≡ gives (course_of n (ended (state_of st))) →
-      Walks (gives (run document01 s start (steps_of n numbers))) (lists t₀ r₀ l₀) b (lists t r l)
+  pub finish : (t r : List ℤ) (l : List ℕ) (st : Standing) (i : ℕ) (c : CourseBack) → Sofar t r l st i → n ≤ i
+      → paper_course c ≡ course_with n (charge_of st.gas) (pos (state_of st).mk) None → c.stop ≡ None
+      → Walks (gives (run document01 s start (steps_of n numbers))) (lists t₀ r₀ l₀) (Ok c) (lists t r l)
   unfolding run steps_of
-  finish t r l st i b f h q =
+  finish t r l st i c f h q m =
       let os = f.outs in
       let z : n - i ≡ 0 = omega arith in
       let e : n ≡ length os = omega arith in
       let w : run document01 s start (steps_of n numbers) ≡ record { outs = os; end = ended (state_of st) } =
       f.ran ∙ ap (λ (k : ℕ). ahead os (run document01 s (state_of st) (steps_of k (drop (step_numbers * i) numbers)))) z
       ∙ ap (λ (x : List Out). record { outs = x; end = ended (state_of st) }) (append-nil os) in
-      rw w (record { answer = q ∙ ap (λ (m : ℕ). gives (course_of m (ended (state_of st)))) e; lent = rw (f.temperatures, f.rests, f.looks) refl })
+      rw w (record {
+        answer = ap gives (q ∙ ap (λ (m : ℕ). course_of m (ended (state_of st))) e);
+        lent = rw (f.temperatures, f.rests, f.looks) refl;
+        no_place = rw m refl;
+      })

@@ -1,9 +1,10 @@
 -- Demand 1 of a walk, both ways and over any weights: the refusals of its start (`demand_1_walk`), those of a step as one order (`judge_is`, `demand_1_step`), and that a walk is
 -- stopped at step i with n exactly when the steps before are accepted and n is the first line of step i (`stopped_exactly`, and of the answer `walk_stopped`). Assumes nothing.
-use Rattle.std.specs.Prelude.{◌≡◌, ◌↔◌, List, [], ◌∷◌, ◌++◌, ℕ, zero, suc, ◌/◌, ℤ, pos, length, take}
+use Rattle.std.specs.Prelude.{◌≡◌, ◌↔◌, List, [], ◌∷◌, ◌++◌, ℕ, zero, suc, ◌/◌, ℤ, pos, length, take, None, Result}
 use Rattle.std.proofs.Math.Path.{refl, sym, ap}
 use Rattle.std.proofs.Common.{ap₂, ◌∙◌, le_of_suc-le-suc, not-suc-le-zero, arith}
-use Rattle.refusal.specs.Refusals.{Told, gives, refused, Line, condition, first, line_number, First, Clear, Demand1}
+use Rattle.refusal.specs.declared.Refusal.{Refusal}
+use Rattle.refusal.specs.Refusals.{Numbered, told_by, place_of, here, after, Told, gives, refused, Line, condition, first, line_number, First, Clear, Demand1}
 use Rattle.refusal.specs.BoolLaws.{by_bool}
 use Rattle.refusal.specs.RefusalsLaws.{refusal_given, demand_1}
 use Rattle.refusal.specs.OrdersLaws.{one_order}
@@ -12,7 +13,7 @@ use Rattle.burning.specs.Burning.{Weights, charge_of}
 use Rattle.gas.specs.Heat.{gas_heat}
 use Rattle.air.specs.Inverse.{unreached}
 use Rattle.walk.specs.Limits.{step_numbers}
-use Rattle.walk.specs.declared.WalkAnswer.{WalkAnswer}
+use Rattle.walk.specs.declared.Course.{Course as CourseBack}
 use Rattle.walk.specs.declared.Step.{Step}
 use Rattle.walk.specs.Step.{State, Asked, Out, held, ask_lines, asked_of, asked, out_of, sought, judge, step_order}
 use Rattle.walk.specs.Lists.{Lists}
@@ -31,6 +32,18 @@ module _ (w : Weights) (s : List ℕ) (st : State) (p : Step) where
 
   pub demand_1_step : Demand1 (step_order w s st p) (out_of w s asks) (judge w s st p)
   demand_1_step = demand_1 _ _ judge_is
+
+  -- each is given for no row
+  by_line : {l : Line} {r : Numbered} → First (step_order w s st p) l → told_by {A = Out} l ≡ refused r → place_of r ≡ None
+  by_line (here h) e = cc
+  by_line (after h (here k)) e = cc
+  by_line (after h (after k (here m))) e = cc
+  by_line (after h (after k (after m (here x)))) e = cc
+  by_line (after h (after k (after m (after x (here y))))) e = cc
+  by_line (after h (after k (after m (after x (after y later))))) e = elim later [ ]
+
+  pub step_placeless : (r : Numbered) → judge w s st p ≡ refused r → place_of r ≡ None
+  step_placeless r e = let x = (demand_1_step.refusal r).0 e in by_line x.1 x.2
 
 -- ---- the first step: refused with n, or done
 module _ (w : Weights) (s : List ℕ) where
@@ -135,7 +148,7 @@ course_first : (ls : List Line) (t : Trace) → course (first ls t) ≡ first ls
 course_first [] t = refl
 course_first (l ∷ ls) t = by_bool (condition l) (λ h. rw h refl) (λ h. rw h (course_first ls t))
 
-module _ (lines : List Line) (w : Weights) (s : List ℕ) (start : Charge) (from : ℤ) (numbers : List ℤ) {before : Lists} {a : WalkAnswer} {after : Lists}
+module _ (lines : List Line) (w : Weights) (s : List ℕ) (start : Charge) (from : ℤ) (numbers : List ℤ) {before : Lists} {a : Result CourseBack Refusal} {after : Lists}
     (h : Walks (walked_into before lines w s start from numbers) before a after) where
   abbrev order : List Line
   order = lines ++ start_lines w start from (length numbers) (length before.temperatures) (length before.rests) (length before.looks)

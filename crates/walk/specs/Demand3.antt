@@ -1,8 +1,9 @@
 -- Demand 3, as it is proved of every outcome that satisfies the promise of a walk (Demand3Laws.antt): the content above 15 °C at the last temperature never exceeds
 -- the exact ledger; with no steps the two are equal; otherwise the shortfall is less than the sum over the steps of the dearest thousandth of that step's gas; and every
 -- step's temperature, rest and looks are those of document 01 for what that step asks, decided by the defined heat.
-use Rattle.std.specs.Prelude.{List, [], ◌∷◌, map, ◌≡◌, ℕ, zero, suc, ◌*◌, ◌<◌, ◌≤◌, ℤ, pos, ◌-ℤ◌, length, get_or, take, drop, ◌≤ℤ◌, ◌<ℤ◌}
+use Rattle.std.specs.Prelude.{List, [], ◌∷◌, map, ◌≡◌, ℕ, zero, suc, ◌*◌, ◌<◌, ◌≤◌, ℤ, pos, ◌-ℤ◌, length, get_or, take, drop, ◌≤ℤ◌, ◌<ℤ◌, None, Some, Result, Ok}
 use Rattle.signed.specs.Zed.{up}
+use Rattle.refusal.specs.declared.Refusal.{Refusal}
 use Rattle.air.specs.Limits.{look_places}
 use Rattle.air.specs.Halving.{eleven}
 use Rattle.air.specs.Inverse.{temperature, rest, looks}
@@ -10,17 +11,16 @@ use Rattle.burning.specs.declared.Charge.{Charge}
 use Rattle.burning.specs.declared.Gas.{Gas}
 use Rattle.burning.specs.Burning.{Weights, gas_of}
 use Rattle.gas.specs.Heat.{gas_heat, content_above15}
-use Rattle.walk.specs.declared.WalkAnswer.{WalkAnswer}
-use Rattle.walk.specs.declared.WalkAnswer.TheVariants.{Done, Stopped}
+use Rattle.walk.specs.declared.Course.{Course as CourseBack}
 use Rattle.walk.specs.declared.Step.{Step}
 use Rattle.walk.specs.Step.{State, Asked, held, new_gas, asked_of}
 use Rattle.walk.specs.Walk.{no_step}
 use Rattle.walk.specs.Ledger.{ledger, dearest, sum_of}
 
 -- n steps were done, and this charge and temperature came back: of a walk done to its end, or stopped at a step
-pub data CameBack : WalkAnswer → ℕ → Charge → ℤ → Type 0 where
-  came_done : (n : ℕ) (ch : Charge) (t : ℤ) → CameBack (Done n ch (record { 0 = t })) n ch t
-  came_stopped : (n number : ℕ) (ch : Charge) (t : ℤ) → CameBack (Stopped n number ch (record { 0 = t })) n ch t
+pub data CameBack : Result CourseBack Refusal → ℕ → Charge → ℤ → Type 0 where
+  came_done : (n : ℕ) (ch : Charge) (t : ℤ) → CameBack (Ok (record { steps = n; charge = ch; t = record { 0 = t }; stop = None })) n ch t
+  came_stopped : (n : ℕ) (r : Refusal) (ch : Charge) (t : ℤ) → CameBack (Ok (record { steps = n; charge = ch; t = record { 0 = t }; stop = Some r })) n ch t
 
 -- the gas after each step
 abbrev pub gases_after : Gas → List Step → List Gas

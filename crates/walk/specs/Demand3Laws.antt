@@ -1,9 +1,10 @@
 -- Demand 3 proved, over any weights, of every outcome that satisfies the promise of a walk. Assumes nothing.
-use Rattle.std.specs.Prelude.{◌≡◌, refl, List, [], ◌∷◌, ◌++◌, map, ℕ, zero, suc, ◌+◌, ◌*◌, ◌/◌, ◌<◌, ◌≤◌, ℤ, pos, ◌+ℤ◌, length, get_or, take, drop}
+use Rattle.std.specs.Prelude.{◌≡◌, refl, List, [], ◌∷◌, ◌++◌, map, ℕ, zero, suc, ◌+◌, ◌*◌, ◌/◌, ◌<◌, ◌≤◌, ℤ, pos, ◌+ℤ◌, length, get_or, take, drop, Result}
 use Rattle.std.proofs.Common.{sym, ap, ap₂, ◌∙◌, append_assoc, le_of_suc-le-suc, not-suc-le-zero, arith, get_or-drop, take_at, drop_at, drop-drop, length-take-le}
 use Rattle.std.proofs.lemmas.List.{length-map}
 use Rattle.std.proofs.Math.ListN.{get_or-append}
 use Rattle.signed.specs.Zed.{up, is_pos, is_self, is_add, is_minus, lt_by, zed}
+use Rattle.refusal.specs.declared.Refusal.{Refusal}
 use Rattle.refusal.specs.Refusals.{Told, gives, refused, Line, Clear, clear, none as nothing}
 use Rattle.refusal.specs.RefusalsLaws.{gives_clear, values_given}
 use Rattle.air.specs.Limits.{look_places, coldest}
@@ -22,7 +23,7 @@ use Rattle.burning.specs.FuelLaws.{limits_with}
 use Rattle.gas.specs.HeatLaws.{gas_rises}
 use Rattle.gas.specs.Heat.{gas_heat}
 use Rattle.walk.specs.Limits.{step_numbers}
-use Rattle.walk.specs.declared.WalkAnswer.{WalkAnswer}
+use Rattle.walk.specs.declared.Course.{Course as CourseBack}
 use Rattle.walk.specs.Lists.{Lists, laid}
 use Rattle.walk.specs.declared.Step.{Step}
 use Rattle.walk.specs.Step.{State, Asked, Out, held, new_gas, asked_of, out_of}
@@ -179,7 +180,7 @@ module _ (w : Weights) (s : List ℕ) (climb : AllClimb w s) (st : State) (ps : 
 
 -- ---- the theorem, of the promise
 -- what came back is how the run ended
-came_back : {a : WalkAnswer} {n : ℕ} {ch : Charge} {mk : ℤ} → CameBack a n ch mk → (m : ℕ) (e : End) → paper_walk a ≡ gives (course_of m e)
+came_back : {a : Result CourseBack Refusal} {n : ℕ} {ch : Charge} {mk : ℤ} → CameBack a n ch mk → (m : ℕ) (e : End) → paper_walk a ≡ gives (course_of m e)
     → (n ≡ m) × (ch ≡ charge_of (last_of e).gas) × (mk ≡ pos (last_of e).mk)
 came_back (came_done n ch t) m (ended st) h = (cc, cc, cc)
 came_back (came_done n ch t) m (cut k st) h = absurd (let z : ◌≡◌ {A = ℕ} 0 1 = cc in omega arith)
@@ -187,7 +188,7 @@ came_back (came_stopped n k ch t) m (ended st) h = absurd (let z : ◌≡◌ {A 
 came_back (came_stopped n k ch t) m (cut j st) h = (cc, cc, cc)
 
 -- a refused start has nothing that came back
-began : {a : WalkAnswer} {n : ℕ} {ch : Charge} {mk : ℤ} → CameBack a n ch mk → (told : Told Trace) → paper_walk a ≡ course told → (T : Trace) × (told ≡ gives T)
+began : {a : Result CourseBack Refusal} {n : ℕ} {ch : Charge} {mk : ℤ} → CameBack a n ch mk → (told : Told Trace) → paper_walk a ≡ course told → (T : Trace) × (told ≡ gives T)
 began c (gives T) h = (T, refl)
 began (came_done n ch t) (refused r) h = absurd (let z : ◌≡◌ {A = ℕ} 0 1 = cc in omega arith)
 began (came_stopped n j ch t) (refused r) h = absurd (let z : ◌≡◌ {A = ℕ} 0 1 = cc in omega arith)
@@ -206,7 +207,7 @@ module _ (w : Weights) (s : List ℕ) (climb : AllClimb w s) (lines : List Line)
       (gives_clear (lines ++ start_lines w start from (length numbers) (length before.temperatures) (length before.rests) (length before.looks))
       {a = run w s (start_state start from) steps} {b = T} e).1
 
-  demand_3_climbing : (a : WalkAnswer) (after : Lists) (n : ℕ) (ch : Charge) (mk : ℤ) → Walks told before a after → CameBack a n ch mk
+  demand_3_climbing : (a : Result CourseBack Refusal) (after : Lists) (n : ℕ) (ch : Charge) (mk : ℤ) → Walks told before a after → CameBack a n ch mk
       → Demand3 w s (start_state start from) (take n steps) n ch mk after.temperatures after.rests after.looks
   demand_3_climbing a after n ch mk h c =
       let T = run w s (start_state start from) steps in
@@ -233,7 +234,7 @@ module _ (w : Weights) (so : Sound w) (s : List ℕ) (start : Charge) (from : �
       sheet_clear (clear x (clear y c)) = clear x (clear y nothing)
 
   -- DEMAND 3: for every outcome that meets the promise of `walk` with n steps done, by the charge and temperature that came back and the lists as they are on return
-  pub demand_3 : (a : WalkAnswer) (after : Lists) (n : ℕ) (ch : Charge) (mk : ℤ)
+  pub demand_3 : (a : Result CourseBack Refusal) (after : Lists) (n : ℕ) (ch : Charge) (mk : ℤ)
       → Walks (walked_into before (sheet_lines s) w s start from numbers) before a after → CameBack a n ch mk
       → Demand3 w s (start_state start from) (take n (steps_of (length numbers / step_numbers) numbers)) n ch mk after.temperatures after.rests after.looks
   demand_3 a after n ch mk h c =
@@ -241,7 +242,7 @@ module _ (w : Weights) (so : Sound w) (s : List ℕ) (start : Charge) (from : �
       demand_3_climbing w s (all_climb w so (began_accepted b.0 b.1)) (sheet_lines s) start from numbers before a after n ch mk h c
 
 -- at document 01's weights nothing is left to suppose
-pub demand_3_document01 : (s : List ℕ) (start : Charge) (from : ℤ) (numbers : List ℤ) (before : Lists) (a : WalkAnswer) (after : Lists) (n : ℕ) (ch : Charge) (mk : ℤ)
+pub demand_3_document01 : (s : List ℕ) (start : Charge) (from : ℤ) (numbers : List ℤ) (before : Lists) (a : Result CourseBack Refusal) (after : Lists) (n : ℕ) (ch : Charge) (mk : ℤ)
     → WalkPromise (sheet_lines s) s start from numbers before a after → CameBack a n ch mk
     → Demand3 document01 s (start_state start from) (take n (steps_of (length numbers / step_numbers) numbers)) n ch mk after.temperatures after.rests after.looks
 demand_3_document01 = demand_3 document01 document01_sound

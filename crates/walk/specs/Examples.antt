@@ -2,7 +2,7 @@
 -- temperatures 200,500 and 200,501, rests 1 and 0, ten looks each; the ledger falls short by 1. And the fakes of "Completeness of the promises" that it rules out.
 -- Assumes nothing.
 use borrow.Author.Tests.{le-ltb}
-use Rattle.std.specs.Prelude.{◌≡◌, ℤ, pos, neg_ℤ, ◌+ℤ◌, length, take, drop}
+use Rattle.std.specs.Prelude.{◌≡◌, ℤ, pos, neg_ℤ, ◌+ℤ◌, length, take, drop, Some, Result, Ok, Err}
 use Rattle.std.proofs.Math.Path.{refl, ap, ap₂}
 use Rattle.std.proofs.Common.{sym, ◌∙◌, arith, lit<, lit≤}
 use Rattle.std.proofs.Math.Bool.{false}
@@ -28,8 +28,7 @@ use Rattle.air.specs.declared.Millikelvin.{Millikelvin}
 use Rattle.refusal.specs.declared.Refusal.{Refusal}
 use Rattle.burning.specs.BurningLaws.{document01_sound}
 use Rattle.walk.specs.declared.Step.{Step}
-use Rattle.walk.specs.declared.WalkAnswer.{WalkAnswer}
-use Rattle.walk.specs.declared.WalkAnswer.TheVariants.{Stopped, Refused}
+use Rattle.walk.specs.declared.Course.{Course as CourseBack}
 use Rattle.walk.specs.Step.{Out, held, burn_heat, step_heat, asked, sought, judge}
 use Rattle.walk.specs.Walk.{Trace, ended, run, steps_of, start_lines, walked, course, paper_walk, done, filled, Walks, WalkPromise}
 use Rattle.walk.specs.Lists.{Lists, lists, laid}
@@ -119,9 +118,9 @@ module _ {s : List ℕ} (ok : Accepted s) where
   second_looks = ap (λ (f : ℕ → ℤ). looks f (pos 478802400000)) (air_alone s 1)
 
 -- an answer that refuses a walk as a whole: at its start, or stopped with no step done
-pub data RefusesAll : WalkAnswer → Type 0 where
-  at_start : (r : Refusal) → RefusesAll (Refused r)
-  at_once : (n : ℕ) (ch : Charge) (mk : Millikelvin) → RefusesAll (Stopped 0 n ch mk)
+pub data RefusesAll : Result CourseBack Refusal → Type 0 where
+  at_start : (r : Refusal) → RefusesAll (Err r)
+  at_once : (r : Refusal) (ch : Charge) (mk : Millikelvin) → RefusesAll (Ok (record { steps = 0; charge = ch; t = mk; stop = Some r }))
 
 -- the numbers of the printed walk
 abbrev pub printed_steps : List ℤ
@@ -138,13 +137,13 @@ module _ {s : List ℕ} (ok : Accepted s) (t r : List ℤ) (l : List ℕ) (ft : 
       ∙ rw (le-ltb (length t) 2 ft, le-ltb (length r) 2 fr, le-ltb (length l) 22 fl) (ap gives (printed_run ok))
 
   -- every outcome that meets the promise is the printed one
-  pub record Printed (a : WalkAnswer) (t' r' : List ℤ) (l' : List ℕ) : Type 0 where
+  pub record Printed (a : Result CourseBack Refusal) (t' r' : List ℤ) (l' : List ℕ) : Type 0 where
     pub answer : paper_walk a ≡ gives (done 2 (charge 1 0 0) (pos 200501))
     pub temperatures : t' ≡ pos 200500 ∷ pos 200501 ∷ drop 2 t
     pub rests : r' ≡ pos 1 ∷ pos 0 ∷ drop 2 r
     pub looks_are : l' ≡ eleven (ten_looks ok) ++ eleven (ten_looks ok) ++ drop 22 l
 
-  pub printed_walk_lem : (a : WalkAnswer) (t' r' : List ℤ) (l' : List ℕ) → Walks told (lists t r l) a (lists t' r' l') → Printed a t' r' l'
+  pub printed_walk_lem : (a : Result CourseBack Refusal) (t' r' : List ℤ) (l' : List ℕ) → Walks told (lists t r l) a (lists t' r' l') → Printed a t' r' l'
   unfolding eleven
   printed_walk_lem a t' r' l' w = record {
     answer = w.answer ∙ ap course told_printed;
@@ -158,29 +157,30 @@ module _ {s : List ℕ} (ok : Accepted s) (t r : List ℤ) (l : List ℕ) (ft : 
 
   -- ---- the fakes: no outcome of their kind meets the promise here
   -- it refuses everything: the start, with whatever number, or the first step
-  pub no_refusing_all : (a : WalkAnswer) → RefusesAll a → (t' r' : List ℤ) (l' : List ℕ) → Walks told (lists t r l) a (lists t' r' l') → ⊥
-  no_refusing_all a (at_start r) t' r' l' w = let e = (printed_walk_lem (Refused r) t' r' l' w).answer in let z : ◌≡◌ {A = ℕ} 0 1 = cc in omega arith
-  no_refusing_all a (at_once n ch mk) t' r' l' w = let e = (printed_walk_lem (Stopped 0 n ch mk) t' r' l' w).answer in let z : ◌≡◌ {A = ℕ} 0 1 = cc in omega arith
+  pub no_refusing_all : (a : Result CourseBack Refusal) → RefusesAll a → (t' r' : List ℤ) (l' : List ℕ) → Walks told (lists t r l) a (lists t' r' l') → ⊥
+  no_refusing_all a (at_start r) t' r' l' w = let e = (printed_walk_lem (Err r) t' r' l' w).answer in let z : ◌≡◌ {A = ℕ} 0 1 = cc in omega arith
+  no_refusing_all a (at_once r ch mk) t' r' l' w =
+      let e = (printed_walk_lem (Ok (record { steps = 0; charge = ch; t = mk; stop = Some r })) t' r' l' w).answer in let z : ◌≡◌ {A = ℕ} 0 1 = cc in omega arith
 
-  first_temperature : (a : WalkAnswer) (x : ℤ) (t' r' : List ℤ) (l' : List ℕ) → Walks told (lists t r l) a (lists (x ∷ t') r' l') → x ≡ pos 200500
+  first_temperature : (a : Result CourseBack Refusal) (x : ℤ) (t' r' : List ℤ) (l' : List ℕ) → Walks told (lists t r l) a (lists (x ∷ t') r' l') → x ≡ pos 200500
   first_temperature a x t' r' l' w = let e = (printed_walk_lem a (x ∷ t') r' l' w).temperatures in cc
 
   -- it answers 200,000 always, which is the start's temperature too
-  pub no_constant : (a : WalkAnswer) (t' r' : List ℤ) (l' : List ℕ) → Walks told (lists t r l) a (lists (pos 200000 ∷ t') r' l') → ⊥
+  pub no_constant : (a : Result CourseBack Refusal) (t' r' : List ℤ) (l' : List ℕ) → Walks told (lists t r l) a (lists (pos 200000 ∷ t') r' l') → ⊥
   no_constant a t' r' l' w = let e = ap up (first_temperature a (pos 200000) t' r' l' w) in omega arith
 
   -- it computes step 1 and repeats it
-  pub no_repeating : (a : WalkAnswer) (x : ℤ) (t' r' : List ℤ) (l' : List ℕ) → Walks told (lists t r l) a (lists (x ∷ x ∷ t') r' l') → ⊥
+  pub no_repeating : (a : Result CourseBack Refusal) (x : ℤ) (t' r' : List ℤ) (l' : List ℕ) → Walks told (lists t r l) a (lists (x ∷ x ∷ t') r' l') → ⊥
   no_repeating a x t' r' l' w = let e = (printed_walk_lem a (x ∷ x ∷ t') r' l' w).temperatures in let p : x ≡ pos 200500 = cc in let q : x ≡ pos 200501 = cc in let z = ap up (sym p ∙ q) in omega arith
 
 -- it writes nothing: lists of zeros would stay
-pub no_writing_nothing : {s : List ℕ} (ok : Accepted s) (a : WalkAnswer) (r r' : List ℤ) (l l' : List ℕ) (fr : 2 ≤ length r) (fl : 22 ≤ length l)
+pub no_writing_nothing : {s : List ℕ} (ok : Accepted s) (a : Result CourseBack Refusal) (r r' : List ℤ) (l l' : List ℕ) (fr : 2 ≤ length r) (fl : 22 ≤ length l)
     → WalkPromise (sheet_lines s) s (charge 1 0 0) (pos 200000) printed_steps (lists (pos 0 ∷ pos 0 ∷ []) r l) a (lists (pos 0 ∷ pos 0 ∷ []) r' l') → ⊥
 no_writing_nothing ok a r r' l l' fr fl w =
     let e = ap up (first_temperature ok (pos 0 ∷ pos 0 ∷ []) r l (lit≤ tt) fr fl a (pos 0) (pos 0 ∷ []) r' l' w) in omega arith
 
 -- it invents a number of looks: whatever the first eleven places would hold other than the ten looks and a 0
-pub no_invented_looks : {s : List ℕ} (ok : Accepted s) (a : WalkAnswer) (t r t' r' : List ℤ) (l l' : List ℕ) (ft : 2 ≤ length t) (fr : 2 ≤ length r) (fl : 22 ≤ length l)
+pub no_invented_looks : {s : List ℕ} (ok : Accepted s) (a : Result CourseBack Refusal) (t r t' r' : List ℤ) (l l' : List ℕ) (ft : 2 ≤ length t) (fr : 2 ≤ length r) (fl : 22 ≤ length l)
     → WalkPromise (sheet_lines s) s (charge 1 0 0) (pos 200000) printed_steps (lists t r l) a (lists t' r' l')
     → (places : List ℕ) → (places ≡ ten_looks ok ++ 0 ∷ [] → ⊥) → take 11 l' ≡ places → ⊥
 unfolding eleven

@@ -1,8 +1,9 @@
 -- A walk (document 01, "The walk" and "Refusal numbers"): the steps one after the other up to the first that is refused, the refusals before the first step, what
 -- comes back, and what the three lent lists hold on return.
-use Rattle.std.specs.Prelude.{Bool, not, ◌||◌, List, [], ◌∷◌, ◌++◌, map, ◌≡◌, ℕ, zero, suc, ◌*◌, ◌/◌, ◌%◌, ◌<◌, ltb, eqb, ℤ, pos, length, get_or, take, drop}
+use Rattle.std.specs.Prelude.{Bool, not, ◌||◌, List, [], ◌∷◌, ◌++◌, map, ◌≡◌, ℕ, zero, suc, ◌*◌, ◌/◌, ◌%◌, ◌<◌, ltb, eqb, ℤ, pos, length, get_or, take, drop, Option, None, Some, Result, IfOk}
 use Rattle.signed.specs.Zed.{up}
-use Rattle.refusal.specs.Refusals.{Told, gives, refused, Line, ◌when◌, first, line_number, First, number_of}
+use Rattle.refusal.specs.declared.Refusal.{Refusal}
+use Rattle.refusal.specs.Refusals.{Told, gives, refused, Line, ◌when◌, first, line_number, First, number_of, numbered, place_of, told_as}
 use Rattle.air.specs.Limits.{look_places}
 use Rattle.air.specs.Halving.{eleven}
 use Rattle.burning.specs.declared.Charge.{Charge}
@@ -11,8 +12,7 @@ use Rattle.burning.specs.Fuel.{no_fuel}
 use Rattle.burning.specs.Answers.{charge_lines}
 use Rattle.gas.specs.Answers.{temperature_lines}
 use Rattle.walk.specs.Limits.{step_numbers, most_numbers}
-use Rattle.walk.specs.declared.WalkAnswer.{WalkAnswer}
-use Rattle.walk.specs.declared.WalkAnswer.TheVariants.{Done, Stopped, Refused}
+use Rattle.walk.specs.declared.Course.{Course as CourseBack}
 use Rattle.walk.specs.Lists.{Lists, lists, laid}
 use Rattle.walk.specs.declared.Step.{Step}
 use Rattle.walk.specs.Step.{step_in, State, Out, judge, step_order}
@@ -102,11 +102,22 @@ abbrev pub course : Told Trace → Told Course
 course (gives t) = gives (course_of (length t.outs) t.end)
 course (refused r) = refused r
 
+-- what came back as the paper has it: a step that stopped the walk is told by its number
+abbrev pub course_with : ℕ → Charge → ℤ → Option Refusal → Course
+course_with n ch t None = done n ch t
+course_with n ch t (Some r) = stopped n (number_of (numbered r)) ch t
+
+abbrev pub paper_course : CourseBack → Course
+paper_course c = course_with c.steps c.charge c.t.0 c.stop
+
 -- the answer as the paper has it
-abbrev pub paper_walk : WalkAnswer → Told Course
-paper_walk (Done n ch t) = gives (done n ch t.0)
-paper_walk (Stopped n number ch t) = gives (stopped n number ch t.0)
-paper_walk (Refused r) = refused r
+abbrev pub paper_walk : Result CourseBack Refusal → Told Course
+paper_walk = told_as paper_course
+
+-- the place that the refusal of a step is given for
+abbrev pub stop_place : Option Refusal → Option ℕ
+stop_place None = None
+stop_place (Some r) = place_of (numbered r)
 
 -- ---- the lent lists
 -- the steps done: none where the start is refused
@@ -133,11 +144,12 @@ filled told lent =
     (laid (rests_of (outs_of told)) lent.rests)
     (laid (looks_of (outs_of told)) lent.looks)
 
--- the whole of a walk: what it tells, and the three lent lists before and on return
-pub record Walks (told : Told Trace) (before : Lists) (a : WalkAnswer) (after : Lists) : Type 0 where
+-- the whole of a walk: what it tells, and the three lent lists before and on return; no step is refused for a row
+pub record Walks (told : Told Trace) (before : Lists) (a : Result CourseBack Refusal) (after : Lists) : Type 0 where
   pub answer : paper_walk a ≡ course told
   pub lent : after ≡ filled told before
+  pub no_place : IfOk a (λ c. stop_place c.stop ≡ None)
 
 -- what a walk promises: past these lines, over this sheet, with document 01's weights
-abbrev pub WalkPromise : List Line → List ℕ → Charge → ℤ → List ℤ → Lists → WalkAnswer → Lists → Type 0
+abbrev pub WalkPromise : List Line → List ℕ → Charge → ℤ → List ℤ → Lists → Result CourseBack Refusal → Lists → Type 0
 WalkPromise lines s ch mk numbers before a after = Walks (walked_into before lines document01 s ch mk numbers) before a after

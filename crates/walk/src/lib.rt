@@ -3,8 +3,9 @@
 // over the steps up to the first that is refused (specs/Walk.antt, specs/Step.antt). Demand 3 is a theorem about every outcome that meets it (specs/Demand3.antt).
 #![tactic(auto)]
 
-mod course;
 pub mod inner;
+mod lent;
+mod run;
 mod stepping;
 
 ghost use Rattle.sheet.specs.Answers.{sheet_lines};
@@ -14,7 +15,6 @@ ghost use Rattle.walk.specs.Walk.{WalkPromise};
 use air::Millikelvin;
 use burning::{Charge, Fuel};
 use refusal::Refusal;
-use sheet::SheetAnswer;
 
 // A step: the fuel that it adds, calorific value in hundredths of C.H.U./lb, plain heat q.
 #[derive(Clone, Copy)]
@@ -24,13 +24,14 @@ pub struct Step {
     pub heat: i64,
 }
 
-// A walk done to its end: the number of steps, the last charge and temperature. One that a step stopped: the number of steps done, the refusal's number, the charge
-// and temperature before that step. Or one that was refused at its start.
+// What comes back of a walk that began: the number of steps done, the charge and temperature after the last of them, and the refusal of the step that stopped it; none of a
+// walk done to its end.
 #[derive(Clone, Copy)]
-pub enum WalkAnswer {
-    Done(u32, Charge, Millikelvin),
-    Stopped(u32, u32, Charge, Millikelvin),
-    Refused(Refusal),
+pub struct Course {
+    pub steps: u32,
+    pub charge: Charge,
+    pub t: Millikelvin,
+    pub stop: Option<Refusal>,
 }
 
 // numbers of a step
@@ -42,11 +43,9 @@ pub const MOST_NUMBERS: usize = STEP_NUMBERS * MOST_STEPS;
 
 pub const MOST_LOOKS: usize = air::LOOK_PLACES * MOST_STEPS;
 
-// steps list not a multiple of four long, or over the most numbers
-pub const STEPS: u32 = 13;
-
 // The walk of a charge from a temperature over the steps, four numbers each. Step i writes place i of the temperatures and rests, and the eleven places of looks from
 // 11 i on; a refused step and a refused start write nothing.
+// stays: three lists and not one struct of them, since a C call hands over three, and the clause of `walk` names them.
 pub fn walk(
     charge: Charge,
     t: Millikelvin,
@@ -55,23 +54,12 @@ pub fn walk(
     temperatures: &mut [i64],
     rests: &mut [i64],
     looks: &mut [u32],
-) -> WalkAnswer
+) -> Result<Course, Refusal>
     ensures { WalkPromise (sheet_lines sheet.now) sheet.now charge t.0 steps.now
         (lists temperatures.old rests.old looks.old) result
         (lists temperatures.new rests.new looks.new) }
 {
-    let air = rows::columns::heat_column();
-    match sheet::inner::judge(sheet, &air) {
-        SheetAnswer::Refused(r) => WalkAnswer::Refused(r),
-        SheetAnswer::Good => inner::walk_judged(
-            charge,
-            t,
-            steps,
-            temperatures,
-            rests,
-            looks,
-            sheet,
-            &air,
-        ),
-    }
+    let heats = rows::columns::heat_column();
+    let accepted = sheet::inner::judge(sheet, &heats)?;
+    inner::walk_judged(charge, t, steps, temperatures, rests, looks, accepted)
 }

@@ -3,9 +3,7 @@
 use Rattle.std.specs.Prelude.{ℕ, Bool, true, false, cond, List, [], ◌∷◌, ◌++◌, map, eqb, ℤ, pos, length}
 use Rattle.text.specs.Bytes.{bytes_of}
 use Rattle.text.specs.Decimal.{decimal, decimal_z}
-use Rattle.refusal.specs.declared.Refusal.{Refusal}
-use Rattle.refusal.specs.declared.Refusal.TheVariants.{Plain, At}
-use Rattle.refusal.specs.Refusals.{Told, gives, refused}
+use Rattle.refusal.specs.Refusals.{Numbered, Plain, At, Told, gives, refused}
 use Rattle.air.specs.Inverse.{Found}
 use Rattle.burning.specs.declared.Products.{Products}
 use Rattle.burning.specs.declared.Charge.{Charge}
@@ -25,7 +23,7 @@ fields_text [] = []
 fields_text (z ∷ zs) = (9 ∷ decimal_z z) ++ fields_text zs
 
 -- a refusal: its number and, where there is one, its row
-abbrev pub refusal_text : Refusal → List ℕ
+abbrev pub refusal_text : Numbered → List ℕ
 refusal_text (Plain number) = refused_text ++ (9 ∷ decimal number)
 refusal_text (At number row) = (refused_text ++ (9 ∷ decimal number)) ++ (9 ∷ decimal row)
 
@@ -46,6 +44,10 @@ used (k ∷ ks) = cond (eqb k 0) [] (k ∷ used ks)
 -- the number of looks, and the looks
 abbrev pub counted_text : List ℕ → List ℕ
 counted_text ks = (9 ∷ decimal (length ks)) ++ fields_text (map pos ks)
+
+-- a temperature that was found, and its rest
+abbrev pub found : ℤ → ℤ → Found
+found mk left = record { mk = mk; left = left }
 
 -- an inverse: mK, rest, number of looks, the looks
 abbrev pub found_text : List ℕ → Found → List ℕ

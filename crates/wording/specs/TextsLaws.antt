@@ -1,5 +1,6 @@
 -- Laws of the texts of answers: looks that places hold, numbers one after the other, a refusal, an inverse from its places. Assumes nothing.
-use Rattle.std.specs.Prelude.{ℕ, zero, suc, ◌+◌, ◌-◌, ◌*◌, ◌≤◌, ◌<◌, ◌≡◌, refl, Bool, true, false, cond, List, [], ◌∷◌, ◌++◌, map, eqb, ℤ, pos, length, take, drop, get_or, replicate}
+use Rattle.std.specs.Prelude.{ℕ, zero, suc, ◌+◌, ◌-◌, ◌*◌, ◌≤◌, ◌<◌, ◌≡◌, refl, Bool, true, false, cond, List}
+use Rattle.std.specs.Prelude.{[], ◌∷◌, ◌++◌, map, eqb, ℤ, pos, length, take, drop, get_or, replicate, Result, Some}
 use Rattle.std.proofs.Common.{sym, ◌∙◌, ap, append_assoc, append-nil, arith, add-one, eq-eqb, ne_eqb, length-drop, take-suc, drop-cons}
 use Rattle.std.proofs.lemmas.List.{map-append}
 use Rattle.signed.specs.Zed.{eq_z}
@@ -9,15 +10,16 @@ use Rattle.text.specs.Decimal.{decimal, decimal_z}
 use Rattle.air.specs.Halving.{halving, eleven}
 use Rattle.air.specs.HalvingLaws.{halving_ind}
 use Rattle.air.specs.Inverse.{fits, looks, Found, written}
-use Rattle.air.specs.declared.PsiAnswer.{PsiAnswer}
-use Rattle.refusal.specs.Refusals.{Told, gives, refused}
+use Rattle.air.specs.declared.Millikelvin.{Millikelvin}
+use Rattle.refusal.specs.declared.Refusal.{Refusal}
+use Rattle.refusal.specs.Refusals.{Numbered, Plain, At, number_of, place_of, Told, gives, refused}
 use Rattle.air.specs.Answers.{PsiInverse, paper_psi, psi_inverse_told, psi_value}
 use Rattle.burning.specs.declared.Charge.{Charge}
-use Rattle.gas.specs.declared.TemperatureAnswer.{TemperatureAnswer}
+use Rattle.gas.specs.declared.Heat.{Heat}
 use Rattle.burning.specs.Burning.{document01, gas_of}
 use Rattle.gas.specs.Heat.{gas_heat}
 use Rattle.gas.specs.Answers.{paper_temperature, temperature_told, Temperature}
-use Rattle.wording.specs.Texts.{fields_text, used, inverse_text}
+use Rattle.wording.specs.Texts.{refused_text, refusal_text, fields_text, used, inverse_text}
 
 -- numbers with one more behind them
 fields_snoc : (zs : List ℤ) (z : ℤ) → fields_text (zs ++ (z ∷ [])) ≡ fields_text zs ++ (9 ∷ decimal_z z)
@@ -94,10 +96,19 @@ pub inverse_shown : (v : ℕ → ℤ) (t : ℤ) (told : Told Found) → inverse_
 inverse_shown v t (gives f) = ap (inverse_text (gives f)) (ap used (append-nil (eleven (looks v t))) ∙ used_eleven v t)
 inverse_shown v t (refused r) = refl
 
-pub psi_shown : {target : ℤ} {r : PsiAnswer} {after : List ℕ} → PsiInverse target (replicate look_places 0) r after
+pub psi_shown : {target : ℤ} {r : Result (Millikelvin × ℕ) Refusal} {after : List ℕ} → PsiInverse target (replicate look_places 0) r after
     → inverse_text (paper_psi r) (used after) ≡ inverse_text (psi_inverse_told look_places target) (looks psi_value target)
 psi_shown {target} {r} p = rw (p.told, p.list) (inverse_shown psi_value target (psi_inverse_told look_places target))
 
-pub temperature_shown : (ch : Charge) (target : ℤ) (s : List ℕ) {r : TemperatureAnswer} {after : List ℕ} → Temperature document01 ch target s (replicate look_places 0) r after
+pub temperature_shown : (ch : Charge) (target : ℤ) (s : List ℕ) {r : Result (Millikelvin × Heat) Refusal} {after : List ℕ} → Temperature document01 ch target s (replicate look_places 0) r after
     → inverse_text (paper_temperature r) (used after) ≡ inverse_text (temperature_told document01 ch target s look_places) (looks (gas_heat document01 s (gas_of ch)) target)
 temperature_shown ch target s p = rw (p.told, p.list) (inverse_shown (gas_heat document01 s (gas_of ch)) target (temperature_told document01 ch target s look_places))
+
+-- the text of a refusal by its number and its row
+pub refusal_alone : (r : Numbered) → ((k : ℕ) → place_of r ≡ Some k → ⊥) → refusal_text r ≡ refused_text ++ (9 ∷ decimal (number_of r))
+refusal_alone (Plain n) h = refl
+refusal_alone (At n k) h = absurd (h k refl)
+
+pub refusal_with_row : (r : Numbered) (k : ℕ) → place_of r ≡ Some k → refusal_text r ≡ (refused_text ++ (9 ∷ decimal (number_of r))) ++ (9 ∷ decimal k)
+refusal_with_row (Plain n) k e = cc
+refusal_with_row (At n j) k e = let q : j ≡ k = cc in rw q refl

@@ -2,247 +2,241 @@
 // Each function promises the bytes of one definition of specs/Texts.antt, that all others stay, and the most bytes that the text has, by specs/Limits.antt. All are inner doors of the programs.
 #![tactic(auto)]
 
+mod tabbed;
+
 ghost use Rattle.std.specs.Prelude.{◌*◌, ◌≤◌, ◌≡◌, ◌∷◌, map, length, take, pos};
 ghost use Rattle.text.specs.Decimal.{decimal, decimal_z};
-ghost use Rattle.text.specs.Puts.{Puts};
+ghost use Rattle.text.specs.Puts.{WroteAtMost};
+ghost use Rattle.refusal.specs.Refusals.{numbered, told_as};
 ghost use Rattle.air.specs.Answers.{paper_reading, paper_psi};
 ghost use Rattle.gas.specs.Answers.{paper_heat, paper_specific, paper_temperature};
 ghost use Rattle.walk.specs.Walk.{paper_walk};
 ghost use Rattle.marking.specs.Figures.{paper_numbers};
 ghost use Rattle.marking.specs.Marking.{paper_mark};
 ghost use Rattle.wording.specs.Limits.{field, small, refusal_room, values_room, looks_room, inverse_room, state_room, course_room};
-ghost use Rattle.wording.specs.Texts.{refusal_text, told_text, fields_text, used, counted_text, reading_text, inverse_text, products_text, whole_text, station_text, mark_text, state_text, course_text};
+ghost use Rattle.wording.specs.Texts.{refusal_text, told_text, fields_text, used, found, counted_text, reading_text, inverse_text, products_text, whole_text, station_text, mark_text, state_text, course_text};
 
-use air::{Millikelvin, PsiAnswer, Reading};
+use air::Millikelvin;
 use burning::{Charge, Products};
-use gas::{HeatAnswer, SpecificAnswer, TemperatureAnswer};
-use marking::MarkAnswer;
-use marking::inner::NumbersAnswer;
+use gas::Heat;
+use marking::Marked;
+use marking::inner::StationNumbers;
 use refusal::Refusal;
-use walk::WalkAnswer;
+use tabbed::Tabbed;
+use text::Pen;
+use walk::Course;
 
 // A tab and a number.
-pub fn put_number(n: u64, out: &mut [u8], at: usize) -> usize
-    ensures { Puts field (9 ∷ decimal n) out.old at result out.new }
+pub fn put_number(n: u64, pen: &mut Pen<'_>)
+    ensures { WroteAtMost field (9 ∷ decimal n) pen.old pen.new }
 {
-    let next = text::put_byte(9, out, at);
-    text::put_decimal(n, out, next)
+    pen.put_byte(9);
+    pen.put_decimal(n);
 }
 
 // A tab and a number of 32 bits: the same text, and a narrower bound.
-pub fn put_small(n: u32, out: &mut [u8], at: usize) -> usize
-    ensures { Puts small (9 ∷ decimal n) out.old at result out.new }
+// stays: beside `put_number`, for its clause of a narrower bound (`small`), by which the room of an answer is counted
+pub fn put_small(n: u32, pen: &mut Pen<'_>)
+    ensures { WroteAtMost small (9 ∷ decimal n) pen.old pen.new }
 {
-    let next = text::put_byte(9, out, at);
-    text::put_decimal(n as u64, out, next)
+    pen.put_byte(9);
+    pen.put_decimal(u64::from(n));
 }
 
 // A tab and a signed number.
-pub fn put_signed(z: i64, out: &mut [u8], at: usize) -> usize
-    ensures { Puts field (9 ∷ decimal_z z) out.old at result out.new }
+pub fn put_signed(z: i64, pen: &mut Pen<'_>)
+    ensures { WroteAtMost field (9 ∷ decimal_z z) pen.old pen.new }
 {
-    let next = text::put_byte(9, out, at);
-    text::put_whole(z, out, next)
+    pen.put_byte(9);
+    pen.put_whole(z);
 }
 
 // Numbers, a tab before each.
-fn put_numbers(numbers: &[i64], out: &mut [u8], at: usize) -> usize
-    requires { at ≤ length out.old }
-    ensures { Puts (field * length numbers.now) (fields_text numbers.now) out.old at result out.new }
+fn put_numbers(numbers: &[i64], pen: &mut Pen<'_>)
+    requires { pen.old.at ≤ length pen.old.buf.now }
+    ensures { WroteAtMost (field * length numbers.now) (fields_text numbers.now) pen.old pen.new }
 {
-    let mut next = at;
-    let mut i = 0;
-    while i < numbers.len() {
-        next = put_signed(numbers[i], out, next);
-        i += 1;
+    for z in numbers {
+        put_signed(*z, pen);
     }
-    next
 }
 
 // `refused`, the number and, where there is one, the row.
-pub fn put_refusal(refusal: Refusal, out: &mut [u8], at: usize) -> usize
-    ensures { Puts refusal_room (refusal_text refusal) out.old at result out.new }
+pub fn put_refusal(refusal: Refusal, pen: &mut Pen<'_>)
+    ensures { WroteAtMost refusal_room (refusal_text (numbered refusal)) pen.old pen.new }
 {
-    let next = text::put_text(b"refused", out, at);
-    match refusal {
-        Refusal::Plain(number) => put_small(number, out, next),
-        Refusal::At(number, row) => {
-            let after = put_small(number, out, next);
-            put_small(row, out, after)
+    pen.put_text(b"refused");
+    put_small(refusal.number(), pen);
+    if let Some(row) = refusal.row() {
+        put_small(row, pen);
+    }
+}
+
+// `ok` and a number, or the refusal.
+fn put_value<T: Tabbed>(answer: Result<T, Refusal>, pen: &mut Pen<'_>)
+    ensures { WroteAtMost values_room (whole_text (told_as T.value answer)) pen.old pen.new }
+{
+    match answer {
+        Ok(value) => {
+            pen.put_text(b"ok");
+            value.put(pen);
         }
+        Err(refusal) => put_refusal(refusal, pen),
     }
 }
 
 // `ok` and a reading of the air table, or its refusal.
-pub fn put_reading(reading: Reading, out: &mut [u8], at: usize) -> usize
-    ensures { Puts values_room (reading_text (paper_reading reading)) out.old at result out.new }
+pub fn put_reading(reading: Result<u64, Refusal>, pen: &mut Pen<'_>)
+    ensures { WroteAtMost values_room (reading_text (paper_reading reading)) pen.old pen.new }
 {
-    match reading {
-        Reading::Is(n) => {
-            let next = text::put_text(b"ok", out, at);
-            put_number(n, out, next)
-        }
-        Reading::Refused(refusal) => put_refusal(refusal, out, at),
-    }
+    put_value(reading, pen);
 }
 
 // How many looks stand before the first unused place.
+#[tactic(auto, using(crate::specs::TextsLaws::used_none, crate::specs::TextsLaws::used_more, crate::specs::TextsLaws::used_end))]
 pub fn count_looks(looks: &[u32]) -> usize
     ensures { result ≡ length (used looks.now) }
 {
-    let mut i = 0;
-    while i < looks.len() {
+    for i in 0..looks.len() {
         if looks[i] == 0 {
             return i;
         }
-        i += 1;
     }
-    i
+    looks.len()
 }
 
 // The first n looks, a tab before each.
-fn put_first(looks: &[u32], n: usize, out: &mut [u8], at: usize) -> usize
-    requires { (n ≤ length looks.now) × (at ≤ length out.old) }
-    ensures { Puts (small * n) (fields_text (map pos (take n looks.now))) out.old at result out.new }
+fn put_first(looks: &[u32], n: usize, pen: &mut Pen<'_>)
+    requires { (n ≤ length looks.now) × (pen.old.at ≤ length pen.old.buf.now) }
+    ensures { WroteAtMost (small * n) (fields_text (map pos (take n looks.now))) pen.old pen.new }
 {
-    let mut next = at;
-    let mut i = 0;
-    while i < n {
-        next = put_small(looks[i], out, next);
-        i += 1;
+    for look in &looks[..n] {
+        put_small(*look, pen);
     }
-    next
 }
 
 // The number of looks that eleven places hold, and the looks.
-pub fn put_looks(looks: &[u32], out: &mut [u8], at: usize) -> usize
-    ensures { Puts (looks_room (length looks.now)) (counted_text (used looks.now)) out.old at result out.new }
+pub fn put_looks(looks: &[u32], pen: &mut Pen<'_>)
+    ensures { WroteAtMost (looks_room (length looks.now)) (counted_text (used looks.now)) pen.old pen.new }
 {
     let n = count_looks(looks);
-    let next = put_number(n as u64, out, at);
-    put_first(looks, n, out, next)
+    put_number(n as u64, pen);
+    put_first(looks, n, pen);
+}
+
+// `ok`, mK, the rest and the looks that the places hold; or the refusal.
+fn put_found<T: Tabbed>(answer: Result<(Millikelvin, T), Refusal>, looks: &[u32], pen: &mut Pen<'_>)
+    ensures { WroteAtMost (inverse_room (length looks.now)) (inverse_text (told_as (λ f. found f.0.0 (T.value f.1)) answer) (used looks.now)) pen.old pen.new }
+{
+    match answer {
+        Ok(pair) => {
+            pen.put_text(b"ok");
+            pair.0.put(pen);
+            pair.1.put(pen);
+            put_looks(looks, pen);
+        }
+        Err(refusal) => put_refusal(refusal, pen),
+    }
 }
 
 // `ok`, the mK of a psi, its rest and the looks that the places hold; or the refusal.
-pub fn put_psi(answer: PsiAnswer, looks: &[u32], out: &mut [u8], at: usize) -> usize
-    ensures { Puts (inverse_room (length looks.now)) (inverse_text (paper_psi answer) (used looks.now)) out.old at result out.new }
+pub fn put_psi(answer: Result<(Millikelvin, u64), Refusal>, looks: &[u32], pen: &mut Pen<'_>)
+    ensures { WroteAtMost (inverse_room (length looks.now)) (inverse_text (paper_psi answer) (used looks.now)) pen.old pen.new }
 {
-    match answer {
-        PsiAnswer::At(t, rest) => {
-            let next = text::put_text(b"ok", out, at);
-            let after = put_signed(t.0, out, next);
-            let last = put_number(rest, out, after);
-            put_looks(looks, out, last)
-        }
-        PsiAnswer::Refused(refusal) => put_refusal(refusal, out, at),
-    }
+    put_found(answer, looks, pen);
 }
 
 // `ok` and the products of a charge.
-pub fn put_products(products: Products, out: &mut [u8], at: usize) -> usize
-    ensures { Puts values_room (products_text products) out.old at result out.new }
+pub fn put_products(products: Products, pen: &mut Pen<'_>)
+    ensures { WroteAtMost values_room (products_text products) pen.old pen.new }
 {
-    let ok = text::put_text(b"ok", out, at);
-    let co2 = put_number(products.co2, out, ok);
-    let h2o = put_number(products.h2o, out, co2);
-    let o2 = put_number(products.o2, out, h2o);
-    let n2 = put_number(products.n2, out, o2);
-    put_number(products.ar, out, n2)
+    pen.put_text(b"ok");
+    put_number(products.co2, pen);
+    put_number(products.h2o, pen);
+    put_number(products.o2, pen);
+    put_number(products.n2, pen);
+    put_number(products.ar, pen);
 }
 
 // `ok` and a gas heat or a content, or its refusal.
-pub fn put_heat(answer: HeatAnswer, out: &mut [u8], at: usize) -> usize
-    ensures { Puts values_room (whole_text (paper_heat answer)) out.old at result out.new }
+pub fn put_heat(answer: Result<Heat, Refusal>, pen: &mut Pen<'_>)
+    ensures { WroteAtMost values_room (whole_text (paper_heat answer)) pen.old pen.new }
 {
-    match answer {
-        HeatAnswer::Is(heat) => {
-            let next = text::put_text(b"ok", out, at);
-            put_signed(heat.0, out, next)
-        }
-        HeatAnswer::Refused(refusal) => put_refusal(refusal, out, at),
-    }
+    put_value(answer, pen);
 }
 
 // `ok` and a specific content, or its refusal.
-pub fn put_specific(answer: SpecificAnswer, out: &mut [u8], at: usize) -> usize
-    ensures { Puts values_room (whole_text (paper_specific answer)) out.old at result out.new }
+pub fn put_specific(answer: Result<i64, Refusal>, pen: &mut Pen<'_>)
+    ensures { WroteAtMost values_room (whole_text (paper_specific answer)) pen.old pen.new }
 {
-    match answer {
-        SpecificAnswer::Is(n) => {
-            let next = text::put_text(b"ok", out, at);
-            put_signed(n, out, next)
-        }
-        SpecificAnswer::Refused(refusal) => put_refusal(refusal, out, at),
-    }
+    put_value(answer, pen);
 }
 
 // `ok`, the mK of a heat, its rest and the looks that the places hold; or the refusal.
-pub fn put_temperature(answer: TemperatureAnswer, looks: &[u32], out: &mut [u8], at: usize) -> usize
-    ensures { Puts (inverse_room (length looks.now)) (inverse_text (paper_temperature answer) (used looks.now)) out.old at result out.new }
+pub fn put_temperature(
+    answer: Result<(Millikelvin, Heat), Refusal>,
+    looks: &[u32],
+    pen: &mut Pen<'_>,
+)
+    ensures { WroteAtMost (inverse_room (length looks.now)) (inverse_text (paper_temperature answer) (used looks.now)) pen.old pen.new }
 {
-    match answer {
-        TemperatureAnswer::At(t, rest) => {
-            let next = text::put_text(b"ok", out, at);
-            let after = put_signed(t.0, out, next);
-            let last = put_signed(rest.0, out, after);
-            put_looks(looks, out, last)
-        }
-        TemperatureAnswer::Refused(refusal) => put_refusal(refusal, out, at),
-    }
+    put_found(answer, looks, pen);
 }
 
 // `ok`, a station's mK, specific content and total mass, or its refusal.
-pub fn put_station(answer: NumbersAnswer, out: &mut [u8], at: usize) -> usize
-    ensures { Puts values_room (station_text (paper_numbers answer)) out.old at result out.new }
+pub fn put_station(answer: Result<StationNumbers, Refusal>, pen: &mut Pen<'_>)
+    ensures { WroteAtMost values_room (station_text (paper_numbers answer)) pen.old pen.new }
 {
     match answer {
-        NumbersAnswer::Are(n) => {
-            let ok = text::put_text(b"ok", out, at);
-            let next = put_signed(n.mk, out, ok);
-            let after = put_signed(n.specific, out, next);
-            put_signed(n.mass, out, after)
+        Ok(n) => {
+            pen.put_text(b"ok");
+            put_signed(n.mk, pen);
+            put_signed(n.specific, pen);
+            put_signed(n.mass, pen);
         }
-        NumbersAnswer::Refused(refusal) => put_refusal(refusal, out, at),
+        Err(refusal) => put_refusal(refusal, pen),
     }
 }
 
 // `counts` or `misses`, or the refusal.
-pub fn put_mark(answer: MarkAnswer, out: &mut [u8], at: usize) -> usize
-    ensures { Puts values_room (mark_text (paper_mark answer)) out.old at result out.new }
+pub fn put_mark(answer: Result<Marked, Refusal>, pen: &mut Pen<'_>)
+    ensures { WroteAtMost values_room (mark_text (paper_mark answer)) pen.old pen.new }
 {
     match answer {
-        MarkAnswer::Counts => text::put_text(b"counts", out, at),
-        MarkAnswer::Misses => text::put_text(b"misses", out, at),
-        MarkAnswer::Refused(refusal) => put_refusal(refusal, out, at),
+        Ok(Marked::Counts) => pen.put_text(b"counts"),
+        Ok(Marked::Misses) => pen.put_text(b"misses"),
+        Err(refusal) => put_refusal(refusal, pen),
     }
 }
 
 // The numbers of the charge, and mK.
-fn put_state(charge: Charge, t: Millikelvin, out: &mut [u8], at: usize) -> usize
-    requires { at ≤ length out.old }
-    ensures { Puts state_room (state_text charge t.0) out.old at result out.new }
+fn put_state(charge: Charge, t: Millikelvin, pen: &mut Pen<'_>)
+    requires { pen.old.at ≤ length pen.old.buf.now }
+    ensures { WroteAtMost state_room (state_text charge t.0) pen.old pen.new }
 {
     let numbers = burning::inner::numbers_of(charge);
-    let next = put_numbers(&numbers, out, at);
-    put_signed(t.0, out, next)
+    put_numbers(&numbers, pen);
+    t.put(pen);
 }
 
 // How a walk ended.
-pub fn put_course(answer: WalkAnswer, out: &mut [u8], at: usize) -> usize
-    ensures { Puts course_room (told_text course_text (paper_walk answer)) out.old at result out.new }
+pub fn put_course(answer: Result<Course, Refusal>, pen: &mut Pen<'_>)
+    ensures { WroteAtMost course_room (told_text course_text (paper_walk answer)) pen.old pen.new }
 {
-    match answer {
-        WalkAnswer::Done(n, charge, t) => {
-            let ok = text::put_text(b"ok", out, at);
-            let steps = put_small(n, out, ok);
-            put_state(charge, t, out, steps)
+    let course = match answer {
+        Ok(course) => course,
+        Err(refusal) => return put_refusal(refusal, pen),
+    };
+    match course.stop {
+        None => {
+            pen.put_text(b"ok");
+            put_small(course.steps, pen);
         }
-        WalkAnswer::Stopped(n, number, charge, t) => {
-            let stopped = text::put_text(b"stopped", out, at);
-            let steps = put_small(n, out, stopped);
-            let refusal = put_small(number, out, steps);
-            put_state(charge, t, out, refusal)
+        Some(refusal) => {
+            pen.put_text(b"stopped");
+            put_small(course.steps, pen);
+            put_small(refusal.number(), pen);
         }
-        WalkAnswer::Refused(refusal) => put_refusal(refusal, out, at),
     }
+    put_state(course.charge, course.t, pen);
 }

@@ -4,8 +4,7 @@ use Rattle.signed.specs.Zed.{up}
 use Rattle.rows.specs.Limits.{first_kelvin, last_kelvin}
 use Rattle.rows.specs.Table.{air_psi}
 use Rattle.air.specs.Limits.{look_places}
-use Rattle.air.specs.declared.PsiAnswer.{PsiAnswer}
-use Rattle.air.specs.declared.PsiAnswer.TheVariants.{At}
+use Rattle.air.specs.declared.Millikelvin.{Millikelvin}
 use Rattle.air.specs.Halving.{eleven}
 use Rattle.air.specs.Inverse.{fits, temperature, rest, looks}
 use Rattle.air.specs.Answers.{psi_value}
@@ -24,10 +23,10 @@ pub record PsiRow (target row a b : ℕ) : Type 0 where
   pub fails : target < 1000 * b
 
 -- the answer to a target that is reached
-unfoldable pub psi_found : ℕ → PsiAnswer
-psi_found target = At (record { 0 = pos (temperature psi_value (pos target)) }) (up (rest psi_value (pos target)))
+unfoldable pub psi_found : ℕ → Millikelvin × ℕ
+psi_found target = (record { 0 = pos (temperature psi_value (pos target)) }, up (rest psi_value (pos target)))
 
 -- the answer and the lent list after the search
-pub record PsiSearched (target : ℕ) (before : List ℕ) (r : PsiAnswer) (after : List ℕ) : Type 0 where
+pub record PsiSearched (target : ℕ) (before : List ℕ) (r : Millikelvin × ℕ) (after : List ℕ) : Type 0 where
   pub answer : r ≡ psi_found target
   pub list : after ≡ eleven (looks psi_value (pos target)) ++ drop look_places before

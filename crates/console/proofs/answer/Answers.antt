@@ -1,10 +1,11 @@
--- `answer`: a sheet that is judged here or was judged when it was read gives the same answer to a line (`judged_once`).
-use Rattle.console.specs.Answers.{of_list}
-use Rattle.console.specs.VerdictLaws.{judged_once}
+-- `answer`: a sheet that is judged here or was judged when it was read gives the same answer to a line (`answer_judged_lem`).
+use borrow.Author.Rules.{rules}
+use Rattle.text.specs.PutsLaws.{wrote_puts}
+use Rattle.console.specs.VerdictLaws.{answer_judged_lem}
 use Rattle.console.proofs.answer.Goals as goal
 
-pub answer_judged-requires : goal.answer_judged-requires
-answer_judged-requires c = (of_list c.judge-verdict.ensures, record { heats_are = c.heat_column-air.ensures; psis_are = c.psi_column-psis.ensures; cps_are = c.cp_column-cps.ensures })
-
 pub returns : goal.returns
-returns c = rw (judged_once c.args.sheet.now c.args.line.now c.judge-verdict.result c.judge-verdict.ensures) at c.answer_judged.ensures
+returns c =
+    let p = rw (answer_judged_lem c.args.sheet.now c.judge-judged.result c.judge-judged.ensures.told c.judge-judged.ensures.same c.args.line.now)
+    at (wrote_puts c.answer_judged.ensures) in
+    search (rules, p, c.answer_judged.ensures.same)

@@ -4,7 +4,8 @@ use Rattle.sheet_text.specs.Limits.{sheet_numbers}
 use Rattle.desk.proofs.Arriving.{came_judged}
 use Rattle.desk.proofs.over_file.Goals as goal
 
-pub serve-requires : goal.serve-requires
-serve-requires g c =
+pub invariant_of-serve : goal.invariant_of-serve
+invariant_of-serve g c =
+    let b : length c.args.list.now ≡ sheet_numbers = omega arith in
     let n : length c.read_file.new.list ≡ sheet_numbers = omega arith in
-    (came_judged c.args.list.now c.requires.0 n c.read_file.ensures c.in-Sheet.is c.judge-verdict.ensures, c.requires.1)
+    record { judged = ∣ came_judged c.args.list.now b n c.read_file.ensures c.in-Ok.is c.accept-sheet.ensures.verdict ∣₁ }

@@ -1,18 +1,17 @@
 -- A question taken line by line: what was found so far, and the list that the numbers are kept in. `lines_read`, `lines_kept`, `question_printed` and `question_noted` of
 -- QuestionsLaws.antt show that all lines taken are the question of Questions.antt.
-use Rattle.std.specs.Prelude.{ℕ, suc, ◌*◌, ◌-◌, min, cond, List, [], ◌∷◌, ltb, ℤ, pos, take, drop, get_or}
+use Rattle.std.specs.Prelude.{ℕ, suc, ◌*◌, ◌-◌, min, cond, List, [], ◌∷◌, ltb, ℤ, pos, take, drop, get_or, Ok, Err}
 use Rattle.std.proofs.lemmas.List.Edits.{sets}
 use Rattle.fields.specs.Fields.{holds_return, fields_of, values_of}
 use Rattle.burning.specs.Burning.{charge_numbers, charge_in}
 use Rattle.refusal.specs.Refusals.{Told}
-use Rattle.sheet.specs.declared.SheetAnswer.{SheetAnswer}
+use Rattle.sheet.specs.Answers.{SheetAnswer}
 use Rattle.walk.specs.Limits.{step_numbers}
 use Rattle.walk.specs.Walk.{Trace}
 use Rattle.console.specs.Walks.{walk_told}
 use Rattle.forms.specs.Limits.{kept_lines, most_counted}
-use Rattle.forms.specs.Questions.{is_line}
-use Rattle.forms.specs.declared.questions.Question.{Question}
-use Rattle.forms.specs.declared.questions.Question.TheVariants.{Good, Bad, Returned}
+use Rattle.forms.specs.Questions.{Question, is_line}
+use Rattle.forms.specs.declared.questions.BadLine.TheVariants.{Numbers, Returned}
 
 -- line k, counted from 0, stands in places of its own, as many as a step has numbers; a line past those that are kept is left out
 abbrev pub kept_line : ℕ → List ℤ → List ℤ → List ℤ
@@ -24,21 +23,19 @@ one_more k = min (suc k) most_counted
 
 -- the question with one line more: after the first line that is not so many numbers, or that has a carriage return, no line counts
 abbrev pub with_next : ℕ → List ℕ → Question
-with_next k line = cond (holds_return line) (Returned (one_more k)) (cond (is_line (fields_of line)) (Good (one_more k)) (Bad (one_more k)))
+with_next k line = cond (holds_return line) (Err (Returned (one_more k))) (cond (is_line (fields_of line)) (Ok (one_more k)) (Err (Numbers (one_more k))))
 
 abbrev pub with_line : Question → List ℕ → Question
-with_line (Good k) line = with_next k line
-with_line (Bad n) line = Bad n
-with_line (Returned n) line = Returned n
+with_line (Ok k) line = with_next k line
+with_line (Err bad) line = Err bad
 
 -- and the numbers that are kept of it
 abbrev pub numbers_next : ℕ → List ℕ → List ℤ → List ℤ
 numbers_next k line numbers = cond (holds_return line) numbers (cond (is_line (fields_of line)) (kept_line k (values_of (fields_of line)) numbers) numbers)
 
 abbrev pub numbers_with : Question → List ℕ → List ℤ → List ℤ
-numbers_with (Good k) line numbers = numbers_next k line numbers
-numbers_with (Bad n) line numbers = numbers
-numbers_with (Returned n) line numbers = numbers
+numbers_with (Ok k) line numbers = numbers_next k line numbers
+numbers_with (Err bad) line numbers = numbers
 
 -- ---- the list that they are kept in
 -- the steps of the lines after it: of a question with more lines than the list has places for, one more than the longest walk has, so that it is refused with 13

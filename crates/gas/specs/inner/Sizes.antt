@@ -1,9 +1,6 @@
--- What the heats of src/heats.rt ask and show past the refusals: masses whose heats stay inside 64 bits, a lent sheet and a lent air column, and the heats of
--- two neighbouring kelvins.
-use Rattle.std.specs.Prelude.{◌≡◌, List, ℕ, ◌*◌, ◌/◌, ◌<◌, ◌≤◌, ℤ, pos, ◌+ℤ◌, ◌-ℤ◌, ◌≤ℤ◌}
+-- What the heats of src/heats.rt ask and show past the refusals: masses whose heats stay inside 64 bits, and the heats of two neighbouring kelvins.
+use Rattle.std.specs.Prelude.{◌≡◌, ℕ, ◌*◌, ◌/◌, ◌<◌, ◌≤◌, ℤ, pos, ◌+ℤ◌, ◌-ℤ◌, ◌≤ℤ◌}
 use Rattle.signed.specs.Zed.{up}
-use Rattle.rows.specs.Rows.{rows_h}
-use Rattle.sheet.specs.Sheet.{Accepted}
 use Rattle.burning.specs.declared.Masses.{Masses}
 
 -- the masses of a charge within its limits that is lean: air outweighs four times the oxygen used
@@ -21,12 +18,6 @@ pub record PerPound (air oxygen dioxide water : ℕ) : Type 0 where
   pub oxygen_most : oxygen ≤ 200000000
   pub dioxide_most : dioxide ≤ 200000000
   pub water_most : water ≤ 200000000
-
--- masses to be read from an accepted sheet and the column H of air
-pub record Ready (m : Masses) (sheet column : List ℕ) : Type 0 where
-  pub sized : Sized m
-  pub accepted : Accepted sheet
-  pub column_is : column ≡ rows_h
 
 -- b lies a whole number of thousands above a
 pub record Rises (a b : ℤ) : Type 0 where

@@ -1,19 +1,22 @@
 -- `read_sheet`: the length, then the form of the text; the lent list is written only from a whole sheet (the three ways of proofs/Reading.antt).
-use borrow.Author.Rules.{rules}
+use Rattle.std.proofs.Common.{rules}
 use Rattle.sheet.proofs.Reading.{wrong_length, sheet_read, bad_row_lem}
 use Rattle.sheet.proofs.read_sheet.Goals as goal
 
-pub returns-then-list-ne-NUMBERS : goal.returns-then-list-ne-NUMBERS
-returns-then-list-ne-NUMBERS c = wrong_length c.args.text.now c.args.list.now c.if-list-ne-NUMBERS.true
+pub returns-in_default : goal.returns-in_default
+returns-in_default c = wrong_length c.args.text.now c.args.list.now c.in_default.ensures.cases
 
-pub returns-then-whole_sheet : goal.returns-then-whole_sheet
-returns-then-whole_sheet c = sheet_read c.args.text.now c.args.list.now _ _
-    c.if-list-ne-NUMBERS.false (search rules)
+pub returns-then-not-whole_sheet : goal.returns-then-not-whole_sheet
+returns-then-not-whole_sheet c =
+    let p = c.in-Some.ensures.cases in
+    rw p.same
+    (bad_row_lem c.args.text.now c.args.list.now _ _ p.long (search rules)
+    c.start.ensures c.fill-s.ensures
+    c.whole_sheet.ensures (search rules) c.row_of.ensures)
+
+pub returns : goal.returns
+returns c = sheet_read c.args.text.now c.args.list.now _ _
+    c.in-Some.ensures.cases.long (search rules)
     c.start.ensures
     c.fill-s.ensures c.whole_sheet.ensures
-    c.if-whole_sheet.true c.copy.ensures
-
-pub returns-else-whole_sheet : goal.returns-else-whole_sheet
-returns-else-whole_sheet c = bad_row_lem c.args.text.now c.args.list.now _ _ c.if-list-ne-NUMBERS.false (search rules)
-    c.start.ensures c.fill-s.ensures
-    c.whole_sheet.ensures c.if-whole_sheet.false c.row_of.ensures
+    (search rules) c.copy.ensures

@@ -1,8 +1,7 @@
 -- `take_line`: byte after byte up to a line feed or the end of the piece, it takes the line that stands in the piece (`Takes`).
--- Invariant: what is left to take, on top of what is held, gives the whole taking (`Left`). Measure: the bytes of the piece that are left.
-use Rattle.std.proofs.Common.{◌≡◌, ℕ, ◌+◌, ◌-◌, List, length, drop}
-use Rattle.stream.specs.declared.Held.{Held}
-use Rattle.stream.specs.Taking.{line_in, ends, pushed_all}
+-- Invariant: what is left to take, on top of what is held, gives the whole taking (`Left`).
+use Rattle.std.proofs.Common.{◌≡◌, ℕ, ◌+◌, List, length, drop}
+use Rattle.stream.specs.Taking.{Held, line_in, ends, pushed_all}
 use Rattle.stream.proofs.take_line.Given as goal
 
 -- the taking from `from` on is that from i on with what is held there
@@ -14,6 +13,3 @@ pub record Left (piece : List ℕ) (from : ℕ) (before : List ℕ) (first : Hel
 
 abbrev pub invariant-loop-i : goal.invariant-loop-i
 invariant-loop-i l = Left l.piece l.from l.initial.line l.initial.held l.line l.held l.i
-
-abbrev pub decreases-loop-i : goal.decreases-loop-i
-decreases-loop-i l = length l.piece - l.i

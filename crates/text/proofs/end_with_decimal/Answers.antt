@@ -1,14 +1,10 @@
 -- `end_with_decimal`: the last digit, then before it those of a tenth of the number, down to one digit (`last_digit`, `one_digit`).
 use mathlib.Core.List.{[]}
 use native.Mathlib.Omega.{arith}
-use Rattle.text.specs.Decimal.{decimal}
 use Rattle.text.specs.DecimalLaws.{one_digit, last_digit}
 use Rattle.text.specs.DigitsLaws.{digits_some}
-use Rattle.text.specs.PutsLaws.{stands_length, behind_all, behind_more, behind_nothing, behind_room, behind_inside}
+use Rattle.text.specs.PutsLaws.{behind_more, behind_nothing, behind_room, behind_inside}
 use Rattle.text.proofs.end_with_decimal.Goals as goal
-
-pub loop-rest-init : goal.loop-rest-init
-loop-rest-init c = (omega arith, behind_all (decimal c.args.n) c.args.end c.requires.1)
 
 pub end_with_byte-at-requires : goal.end_with_byte-at-requires
 end_with_byte-at-requires c = let l = c.loop-rest in
@@ -21,9 +17,6 @@ loop-rest-preserved c = let l = c.loop-rest in
 pub end_with_byte-requires : goal.end_with_byte-requires
 end_with_byte-requires c = let l = c.loop-rest in
     (omega (arith, behind_room c.requires.0 l.invariant.1, digits_some l.rest), behind_inside l.invariant.1)
-
-pub shape_of-buf : goal.shape_of-buf
-shape_of-buf c = omega (arith, stands_length c.end_with_byte.ensures, stands_length c.loop-rest.invariant.1.stands)
 
 pub returns : goal.returns
 returns c = let l = c.loop-rest in

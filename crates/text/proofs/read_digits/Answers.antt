@@ -1,24 +1,17 @@
 -- `read_digits`: a step for each byte reads what `digits_of` reads of the whole text (`run_more`).
-use mathlib.Core.Path.{refl, sym, ◌∙◌, ap}
-use native.Mathlib.Omega.{arith}
-use lib.Seq.{take_all}
-use lib.ListN.{get_or}
+use Rattle.std.proofs.Common.{sym, ◌∙◌, ap, arith, take_all, get_or}
 use Rattle.text.specs.declared.Digits.TheVariants.{Empty}
 use Rattle.text.specs.Wholes.{step_digits, digits_of}
 use Rattle.text.specs.Fold.{run}
 use Rattle.text.specs.FoldLaws.{run_more}
 use Rattle.text.proofs.read_digits.Goals as goal
 
-pub loop-i-init : goal.loop-i-init
-loop-i-init c = (omega arith, refl)
-
-pub loop-i-preserved : goal.loop-i-preserved
-loop-i-preserved c = (
-  omega arith,
-  (c.step_digits-s.ensures ∙ ap (λ x. step_digits c.args.limit x (get_or c.args.text.now c.loop-i.i 0)) c.loop-i.invariant.1)
-      ∙ sym (run_more (step_digits c.args.limit) Empty c.args.text.now c.loop-i.i (omega arith)),
-)
+pub loop-b-preserved : goal.loop-b-preserved
+loop-b-preserved c =
+    c.step_digits-s.ensures
+    ∙ ap (λ x. step_digits c.args.limit x (get_or c.args.text.now c.loop-b.b-index 0)) c.loop-b.invariant
+    ∙ sym (run_more (step_digits c.args.limit) Empty c.args.text.now c.loop-b.b-index (omega arith))
 
 pub returns : goal.returns
 unfolding digits_of
-returns c = c.loop-i.invariant.1 ∙ ap (run (step_digits c.args.limit) Empty) (take_all c.loop-i.i c.args.text.now (omega arith))
+returns c = c.loop-b.invariant ∙ ap (run (step_digits c.args.limit) Empty) (take_all c.loop-b.b-index c.args.text.now (omega arith))

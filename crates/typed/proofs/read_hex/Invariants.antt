@@ -1,15 +1,8 @@
--- `read_hex`: a step for each byte reads what `hex_of` reads of the whole text (`run_more`).
--- Invariant: s is what the steps make of the first i bytes. Measure: the bytes that are left.
-use Rattle.typed.specs.declared.Hex.TheVariants.{Value}
-use Rattle.typed.specs.Typed.{step_hex}
+-- `read_hex`. Invariant: what the bytes from the index on make of the number so far is what the whole text says.
+use Rattle.std.proofs.Common.{◌≡◌, drop, Some}
 use Rattle.text.specs.Fold.{run}
-use lib.ListN.{length, take}
-use Prim.Native.Nat.{◌≤◌, ◌-◌}
-use mathlib.Core.Path.{◌≡◌}
+use Rattle.typed.specs.Typed.{step_hex}
 use Rattle.typed.proofs.read_hex.Given as goal
 
-abbrev pub invariant-loop-i : goal.invariant-loop-i
-invariant-loop-i l = (l.i ≤ length l.text) × (l.s ≡ run step_hex (Value 0) (take l.i l.text))
-
-abbrev pub decreases-loop-i : goal.decreases-loop-i
-decreases-loop-i l = length l.text - l.i
+abbrev pub invariant-loop-b : goal.invariant-loop-b
+invariant-loop-b l = run step_hex (Some l.v) (drop l.b-index l.text) ≡ run step_hex (Some 0) l.text

@@ -1,8 +1,9 @@
 -- What the work of a walk past its start keeps and shows: the state with the two heats that the next step needs, one step, and what it asks. The functions of
--- src/course.rt and src/stepping.rt cite these; Step.antt and Walk.antt are what they mean.
-use Rattle.std.specs.Prelude.{true, List, [], ◌≡◌, ℕ, ◌*◌, ◌≤◌, drop, ℤ, pos, ◌-ℤ◌}
+-- src/run.rt and src/stepping.rt cite these; Step.antt and Walk.antt are what they mean.
+use Rattle.std.specs.Prelude.{true, List, [], ◌≡◌, ℕ, ◌*◌, ◌≤◌, drop, ℤ, pos, ◌-ℤ◌, Result, IfOk}
 use Rattle.signed.specs.Zed.{up, dn, in_z}
-use Rattle.refusal.specs.Refusals.{Told, gives, refused, refuses, number_of}
+use Rattle.refusal.specs.declared.Refusal.{Refusal}
+use Rattle.refusal.specs.Refusals.{Told, gives, refused, told_as}
 use Rattle.air.specs.Limits.{fifteen_degrees, coldest, hottest}
 use Rattle.air.specs.declared.Millikelvin.{Millikelvin}
 use Rattle.air.specs.Halving.{eleven}
@@ -11,12 +12,9 @@ use Rattle.burning.specs.declared.Gas.{Gas}
 use Rattle.burning.specs.Burning.{document01, Burns}
 use Rattle.gas.specs.Heat.{gas_heat}
 use Rattle.walk.specs.Limits.{step_numbers}
+use Rattle.walk.specs.declared.lent.Lent.{Lent}
 use Rattle.walk.specs.declared.stepping.Standing.{Standing}
 use Rattle.walk.specs.declared.stepping.Asking.{Asking}
-use Rattle.walk.specs.declared.stepping.Ask.{Ask}
-use Rattle.walk.specs.declared.stepping.Ask.TheVariants.{For, Refused as AskRefused}
-use Rattle.walk.specs.declared.stepping.Stepped.{Stepped}
-use Rattle.walk.specs.declared.stepping.Stepped.TheVariants.{Done, Refused}
 use Rattle.walk.specs.Lists.{laid}
 use Rattle.walk.specs.declared.Step.{Step}
 use Rattle.walk.specs.Step.{step_in, State, Asked, Out}
@@ -37,6 +35,11 @@ pub record Begun (s : List ℕ) (g : Gas) (t : Millikelvin) (st : Standing) : Ty
   pub state_is : state_of st ≡ record { gas = g; mk = up t.0 }
   pub stands : Stands s st
 
+-- the lists that are lent are still the caller's own
+abbrev pub SameLists : Lent → Lent → Type 0
+SameLists before after =
+    (after.temperatures.ghost_name ≡ before.temperatures.ghost_name) × (after.rests.ghost_name ≡ before.rests.ghost_name) × (after.looks.ghost_name ≡ before.looks.ghost_name)
+
 -- the step at an index of a list of numbers
 abbrev pub step_no : List ℤ → ℕ → Step
 step_no l i = step_in (drop (step_numbers * i) l)
@@ -53,18 +56,17 @@ pub record InReach (heat fifteen brought new : ℤ) : Type 0 where
   pub new_most : up new ≤ 1068080000000000000
   pub new_least : dn new ≤ 400000000000000000
 
-abbrev pub paper_ask : Ask → Told Asked
-paper_ask (For a) = gives (record { gas = a.gas; target = a.target.0 })
-paper_ask (AskRefused n) = refuses n
+abbrev pub paper_ask : Result Asking Refusal → Told Asked
+paper_ask = told_as (λ a. record { gas = a.gas; target = a.target.0 })
 
 -- a new gas that burns, with its heat at 15 °C
-pub data AsksOf (s : List ℕ) : Ask → Type 0 where
-  burning : {a : Asking} → Burns document01 a.gas → a.fifteen.0 ≡ gas_heat document01 s a.gas fifteen_degrees → AsksOf s (For a)
-  none : {n : ℕ} → AsksOf s (AskRefused n)
+pub record AsksOf (s : List ℕ) (a : Asking) : Type 0 where
+  pub burning : Burns document01 a.gas
+  pub fifteen_is : a.fifteen.0 ≡ gas_heat document01 s a.gas fifteen_degrees
 
-pub record Asks (told : Told Asked) (s : List ℕ) (r : Ask) : Type 0 where
+pub record Asks (told : Told Asked) (s : List ℕ) (r : Result Asking Refusal) : Type 0 where
   pub asked_is : paper_ask r ≡ told
-  pub ready : AsksOf s r
+  pub ready : IfOk r (λ a. AsksOf s a)
 
 -- ---- a step
 -- the state that follows from what was asked and what was found: the heat there is the target less the rest
@@ -76,13 +78,12 @@ pub record Shown : Type 0 where
   pub state : State
   pub rests : ℤ
 
-abbrev pub paper_step : Stepped → Told Shown
-paper_step (Done st rest) = gives (record { state = state_of st; rests = rest.0 })
-paper_step (Refused n) = refuses n
+abbrev pub paper_step : Result (Standing × Heat) Refusal → Told Shown
+paper_step = told_as (λ p. record { state = state_of p.0; rests = p.1.0 })
 
 abbrev pub shown : Told Out → Told Shown
 shown (gives o) = gives (record { state = o.state; rests = o.rests })
-shown (refused r) = refuses (number_of r)
+shown (refused r) = refused r
 
 -- its eleven places of looks; a refused step writes none
 abbrev pub eleven_of : Told Out → List ℕ
@@ -90,11 +91,7 @@ eleven_of (gives o) = eleven o.seen
 eleven_of (refused r) = []
 
 -- the state after a step that is done is ready for the next
-pub data StandsAfter (s : List ℕ) : Stepped → Type 0 where
-  ready : {st : Standing} {rest : Heat} → Stands s st → StandsAfter s (Done st rest)
-  none : {n : ℕ} → StandsAfter s (Refused n)
-
-pub record StepGives (j : Told Out) (s : List ℕ) (before : List ℕ) (r : Stepped) (after : List ℕ) : Type 0 where
+pub record StepGives (j : Told Out) (s : List ℕ) (before : List ℕ) (r : Result (Standing × Heat) Refusal) (after : List ℕ) : Type 0 where
   pub told : paper_step r ≡ shown j
   pub looks : after ≡ laid (eleven_of j) before
-  pub stands : StandsAfter s r
+  pub stands : IfOk r (λ p. Stands s p.0)

@@ -1,18 +1,12 @@
--- `put_first`: the first n looks stand in the output, a tab before each.
+-- `put_first`: one look more of those that stand in the output, a tab before each.
+use Rattle.std.proofs.Common.{arith, length-take-le, ◌<◌}
+use Rattle.std.proofs.lemmas.List.{get_or-take}
+use Rattle.text.specs.PutsLaws.{wrote_then, wrote_wider}
 use Rattle.wording.specs.TextsLaws.{fields_more}
-use Rattle.text.specs.PutsLaws.{puts_none, puts_then, puts_wider}
-use native.Mathlib.Omega.{arith}
-use mathlib.Core.Path.{◌≡◌}
 use Rattle.wording.proofs.put_first.Goals as goal
 
-pub loop-i-init : goal.loop-i-init
-loop-i-init c = (omega arith, puts_none c.args.out.now c.args.at (omega arith))
-
-pub loop-i-preserved : goal.loop-i-preserved
-loop-i-preserved c = (omega arith, rw (fields_more c.args.looks.now c.loop-i.i (omega arith)) (puts_wider (omega arith) (puts_then c.loop-i.invariant.1 c.put_small-next.ensures)))
-
-pub shape_of-out : goal.shape_of-out
-shape_of-out c = c.loop-i.invariant.1.put.same_length
-
-pub returns : goal.returns
-returns c = let e : c.loop-i.i ≡ c.args.n = omega arith in rw (← e) c.loop-i.invariant.1
+pub loop-look-preserved : goal.loop-look-preserved
+loop-look-preserved c = let l = c.args.looks.now in
+    let h : c.loop-look.look-index < c.args.n = omega (arith, length-take-le c.args.n l c.requires.0) in
+    rw (fields_more l c.loop-look.look-index (omega (arith, h)))
+    (wrote_wider (omega arith) (wrote_then c.loop-look.invariant (rw (get_or-take c.args.n l c.loop-look.look-index 0 h) at c.put_small.ensures)))

@@ -16,10 +16,6 @@ returns-then-not-inside c = rw
 pub to_u64-requires : goal.to_u64-requires
 to_u64-requires c = tested_plain 0 document01.most_atoms c.ranges.more (in_plain _ _ c.ranges.more c.inside.ensures) (ap not c.if-not-inside.false)
 
-pub overflow_add-sum : goal.overflow_add-sum
-overflow_add-sum c = let n = tested_nat 0 document01.most_atoms c.ranges.more (in_plain _ _ c.ranges.more c.inside.ensures) (ap not c.if-not-inside.false) c.to_u64.ensures in
-    omega arith
-
 pub returns-then-sum-gt-MOST_ATOMS : goal.returns-then-sum-gt-MOST_ATOMS
 returns-then-sum-gt-MOST_ATOMS c = let above : dn c.args.more ≡ 0 =
     omega

@@ -1,9 +1,8 @@
 -- `gas_of`: in a charge within its limits no number is below zero (`inside_of`), so each is the same without a sign.
 use borrow.Author.Rules.{rules}
-use mathlib.Core.Path.{ap, ◌∙◌}
 use mir.Syntax.{w64}
 use mir.Val.{SFits}
-use Rattle.signed.specs.Zed.{back, apart, zed, up}
+use Rattle.signed.specs.Zed.{back, apart, zed}
 use Rattle.burning.specs.Burning.{document01}
 use Rattle.burning.specs.BurningLaws.{inside_of}
 use Rattle.burning.proofs.inner.gas_of.Goals as goal
@@ -23,16 +22,3 @@ pub to_u64-requires-3 : goal.to_u64-requires-3
 to_u64-requires-3 c = let hydrogen_fits : SFits w64 c.args.charge.hydrogen =
     search rules in
     rw (back hydrogen_fits) (inside_of document01 c.args.charge c.requires).hydrogen_in.least
-
-pub returns : goal.returns
-returns c = let air_fits : SFits w64 c.args.charge.air =
-    search rules in
-    let carbon_fits : SFits w64 c.args.charge.carbon =
-    search rules in
-    let hydrogen_fits : SFits w64 c.args.charge.hydrogen =
-    search rules in
-    rw (
-      ap up (c.to_u64.ensures ∙ back air_fits),
-      ap up (c.to_u64-2.ensures ∙ back carbon_fits),
-      ap up (c.to_u64-3.ensures ∙ back hydrogen_fits),
-    )

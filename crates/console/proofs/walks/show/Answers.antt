@@ -1,21 +1,13 @@
--- `show`: the lists have room for every step (`holds`), and each step's looks are those of a search (`walk_searched`): so what they hold is the walk's text (`walk_shown_lem`).
-use Rattle.console.specs.WalksLaws.{walk_searched, holds, walk_shown_lem}
+-- `show`: each step's looks are those of a search (`walk_searched`): so what they hold is the walk's text (`walk_shown_lem`).
+use Rattle.console.specs.Answers.{verdict_in, list_in}
 use Rattle.console.specs.Walks.{walk_told}
-use borrow.Author.Rules.{rules}
+use Rattle.console.specs.WalksLaws.{walk_searched, walk_shown_lem}
 use Rattle.console.proofs.walks.show.Goals as goal
 
-pub put_walk-end-requires : goal.put_walk-end-requires
-put_walk-end-requires c = holds (walk_told c.args.verdict c.args.sheet.now c.args.charge c.args.t.0 c.args.steps.now)
-    c.walk_held-answer.ensures (search rules) (search rules) (search rules) (search rules)
-
-pub returns : goal.returns
-returns c = record {
-  puts = rw
-      (walk_shown_lem
-      (walk_told c.args.verdict c.args.sheet.now c.args.charge c.args.t.0 c.args.steps.now)
-      c.walk_held-answer.ensures
-      (walk_searched c.args.verdict c.args.sheet.now c.args.charge c.args.t.0 c.args.steps.now)
-      c.args.layout)
-      at c.put_walk-end.ensures;
-  answer_value = c.walk_held-answer.ensures.answer;
-}
+pub returns-clause-puts : goal.returns-clause-puts
+returns-clause-puts c = rw
+    (walk_shown_lem (walk_told (verdict_in c.args.sheet) (list_in c.args.sheet) c.args.charge c.args.t.0 c.args.steps.now)
+    c.walk_held-answer.ensures
+    (walk_searched (verdict_in c.args.sheet) (list_in c.args.sheet) c.args.charge c.args.t.0 c.args.steps.now)
+    c.args.layout)
+    at c.put_walk.ensures

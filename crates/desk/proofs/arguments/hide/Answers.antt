@@ -1,29 +1,20 @@
--- `hide`: with one byte more shown the first i + 1 are (`part_more`), and all are once i is the name's length (`part_all`).
-use Rattle.std.proofs.Common.{◌≡◌, refl, ◌∙◌, ap, ℕ, zero, suc, ◌<◌, ◌≤◌, List, [], ◌∷◌, map, length, get_or, arith, add-one}
-use Rattle.std.proofs.Math.ListN.{set, length-set}
-use Rattle.desk.specs.Names.{shown_byte}
-use Rattle.desk.proofs.arguments.hide.Invariants.{part}
+-- `hide`: what is left of the name is as it was, and so is the byte that is shown next.
+use Rattle.std.proofs.Common.{◌≡◌, ◌<◌, refl, suc, length, get_or, drop, arith, add-one, drop-cons}
+use Rattle.std.proofs.Math.Seq.{take-suc, take-suc-set}
+use Rattle.std.proofs.lemmas.List.{drop-set-lt, map-append}
 use Rattle.desk.proofs.arguments.hide.Goals as goal
 
-part_more : (i : ℕ) (l : List ℕ) → i < length l → set (part i l) i (shown_byte (get_or (part i l) i 0)) ≡ part (suc i) l
-part_more zero [] h = absurd (omega arith)
-part_more zero (b ∷ l) h = refl
-part_more (suc i) [] h = absurd (omega arith)
-part_more (suc i) (b ∷ l) h = ap (λ (x : List ℕ). shown_byte b ∷ x) (part_more i l (omega arith))
-
-part_all : (i : ℕ) (l : List ℕ) → length l ≤ i → part i l ≡ map shown_byte l
-part_all zero [] h = refl
-part_all zero (b ∷ l) h = absurd (omega arith)
-part_all (suc i) [] h = refl
-part_all (suc i) (b ∷ l) h = ap (λ (x : List ℕ). shown_byte b ∷ x) (part_all i l (omega arith))
-
-pub loop-i-preserved : goal.loop-i-preserved
-loop-i-preserved c =
-    let name = c.args.name.now in
-    let i = c.loop-i.i in (
-      length-set c.loop-i.name i c.shown.result ∙ c.loop-i.invariant.0,
-      rw (add-one i, c.shown.ensures, c.loop-i.invariant.1) (part_more i name (omega (arith, c.loop-i.invariant.0))),
+pub loop-b-preserved : goal.loop-b-preserved
+loop-b-preserved c =
+    let i = c.loop-b.b-index in
+    let name = c.loop-b.name in
+    let before = c.args.name.now in
+    let h : i < length name = omega arith in
+    let k : i < length before = omega arith in
+    let now = drop-cons name i 0 h in
+    let was = drop-cons before i 0 k in
+    let next : get_or name i 0 ≡ get_or before i 0 = cc in
+    let rest : drop (suc i) name ≡ drop (suc i) before = cc in (
+      rw (add-one i, take-suc-set name i c.shown.result h, take-suc before i 0 k, map-append, c.loop-b.invariant.0, c.shown.ensures, next) refl,
+      rw (add-one i, drop-set-lt (suc i) name i c.shown.result (omega arith)) rest,
     )
-
-pub returns : goal.returns
-returns c = c.loop-i.invariant.1 ∙ part_all c.loop-i.i c.args.name.now (omega (arith, c.loop-i.invariant.0))

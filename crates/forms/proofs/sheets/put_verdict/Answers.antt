@@ -1,6 +1,6 @@
--- `put_verdict`: the verdict's words and a line feed (`puts_then`).
-use Rattle.text.specs.PutsLaws.{puts_text, puts_then}
+-- `put_verdict`: the verdict's words and a line feed (`wrote_then`).
+use Rattle.text.specs.PutsLaws.{wrote_text, wrote_then}
 use Rattle.forms.proofs.sheets.put_verdict.Goals as goal
 
 pub returns : goal.returns
-returns c = puts_then c.put_word-next.ensures (puts_text c.put_byte.ensures)
+returns c = wrote_then c.put_word.ensures (wrote_text c.put_byte.ensures)

@@ -1,6 +1,5 @@
 -- `take_piece`: the piece up to its first carriage return, and the rest of it: joined they are the piece (`takes`).
-use native.Mathlib.Omega.{arith}
-use lib.ListN.{length-take}
+use Rattle.std.proofs.Common.{arith, length-take}
 use Rattle.forms.proofs.Arriving.{cut_inside, takes}
 use Rattle.forms.proofs.sheets.take_piece.Goals as goal
 
@@ -15,10 +14,11 @@ slice_bounds-read_piece-start c = cut_inside c.args.piece.now c.place_of-at.ensu
 
 pub returns-then-goes_on : goal.returns-then-goes_on
 returns-then-goes_on c =
-    rw c.if-goes_on.true at (takes c.args.reading c.args.piece.now c.args.list.now c.requires c.place_of-at.ensures c.read_piece-before.ensures
+    rw c.if-goes_on.true at (takes c.args.reading c.args.piece.now c.args.list.now (omega arith) c.place_of-at.ensures c.read_piece-before.ensures
     c.read_piece-after.ensures c.goes_on.ensures)
 
 pub returns-else-goes_on : goal.returns-else-goes_on
 returns-else-goes_on c =
-    rw c.if-goes_on.false at (takes c.args.reading c.args.piece.now c.args.list.now c.requires c.place_of-at.ensures c.read_piece-before.ensures
-    c.read_piece-after.ensures c.goes_on.ensures)
+    rw c.if-goes_on.false
+    (rw c.if-goes_on.false at (takes c.args.reading c.args.piece.now c.args.list.now (omega arith) c.place_of-at.ensures c.read_piece-before.ensures
+    c.read_piece-after.ensures c.goes_on.ensures))

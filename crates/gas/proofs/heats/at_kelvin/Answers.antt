@@ -16,10 +16,10 @@ unfolding air_h
 air_figure k e h = h ∙ ap (λ (l : List ℕ). column l k) e
 
 pub sum-requires : goal.sum-requires
-sum-requires c = let n = accepted_limit c.requires.0.accepted c.args.kelvin c.requires.1 c.requires.2 in (
-  c.requires.0.sized,
+sum-requires c = let n = accepted_limit c.args.sheet.accepted c.args.kelvin c.requires.1 c.requires.2 in (
+  c.requires.0,
   record {
-    air_most = omega (arith, air_figure c.args.kelvin c.requires.0.column_is c.figure.ensures.0, h_most c.args.kelvin);
+    air_most = omega (arith, air_figure c.args.kelvin c.args.sheet.heats_are c.figure.ensures.0, h_most c.args.kelvin);
     oxygen_most = omega (arith, c.o2_at.ensures.0, n.o2_most);
     dioxide_most = omega (arith, c.co2_at.ensures.0, n.co2_most);
     water_most = omega (arith, c.h2o_at.ensures.0, n.h2o_most);
@@ -29,9 +29,9 @@ sum-requires c = let n = accepted_limit c.requires.0.accepted c.args.kelvin c.re
 pub returns : goal.returns
 returns c = c.sum.ensures
     ∙ rw (
-      air_figure c.args.kelvin c.requires.0.column_is c.figure.ensures.0,
+      air_figure c.args.kelvin c.args.sheet.heats_are c.figure.ensures.0,
       c.o2_at.ensures.0,
       c.co2_at.ensures.0,
       c.h2o_at.ensures.0,
     )
-    (sym (heat_whole c.args.gas c.args.sheet.now c.args.kelvin c.requires.2))
+    (sym (heat_whole c.args.gas c.args.sheet.list.now c.args.kelvin c.requires.2))

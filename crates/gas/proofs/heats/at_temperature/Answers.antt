@@ -40,7 +40,7 @@ along-requires c = let t_fits : SFits w64 c.args.t.0 =
     let not_last : c.to_u64-mk.result < hottest =
     omega (arith, mk.most) in
     let m = mk in
-    (rw (c.at_kelvin-2.ensures, c.at_kelvin-3.ensures) (heats_rise c.requires.0 _ (omega (arith, m.least)) (omega (arith, not_last))), omega arith)
+    (rw (c.at_kelvin-2.ensures, c.at_kelvin-3.ensures) (heats_rise c.requires.0 c.args.sheet.accepted _ (omega (arith, m.least)) (omega (arith, not_last))), omega arith)
 
 pub returns : goal.returns
 returns c = let t_fits : SFits w64 c.args.t.0 =
@@ -53,6 +53,6 @@ returns c = let t_fits : SFits w64 c.args.t.0 =
     let m = mk in
     c.along.ensures
     ∙ rw (c.at_kelvin-2.ensures, c.at_kelvin-3.ensures)
-    (along_heat c.requires.0 (n / 1000) (omega (arith, m.least)) (omega (arith, not_last)) (n % 1000) (omega arith))
-    ∙ ap (heat_of c.args.gas c.args.sheet.now) {x = 1000 * (n / 1000) + n % 1000} {y = n} (omega arith)
-    ∙ ap (heat_of c.args.gas c.args.sheet.now) m.number
+    (along_heat c.requires.0 c.args.sheet.accepted (n / 1000) (omega (arith, m.least)) (omega (arith, not_last)) (n % 1000) (omega arith))
+    ∙ ap (heat_of c.args.gas c.args.sheet.list.now) {x = 1000 * (n / 1000) + n % 1000} {y = n} (omega arith)
+    ∙ ap (heat_of c.args.gas c.args.sheet.list.now) m.number

@@ -21,61 +21,26 @@ module _ {m : Masses} {a o c h : ℕ} (z : Sized m) (p : PerPound a o c h) where
   sum_fits : SFits w64 (heat_sum m a o c h)
   sum_fits = fits_from w64 (sum_parts z p) (omega (arith, added_most z p)) (omega (arith, taken_most z p))
 
-pub overflow_mul-plus : goal.overflow_mul-plus
-overflow_mul-plus c = omega (arith, added_most c.requires.0 c.requires.1)
-
-pub overflow_mul-plus-2 : goal.overflow_mul-plus-2
-overflow_mul-plus-2 c = omega (arith, added_most c.requires.0 c.requires.1)
-
-pub overflow_add-plus : goal.overflow_add-plus
-overflow_add-plus c = omega (arith, added_most c.requires.0 c.requires.1)
-
-pub overflow_mul-plus-3 : goal.overflow_mul-plus-3
-overflow_mul-plus-3 c = omega (arith, added_most c.requires.0 c.requires.1)
-
-pub overflow_add-plus-2 : goal.overflow_add-plus-2
-overflow_add-plus-2 c = omega (arith, added_most c.requires.0 c.requires.1)
-
-pub of_u64-requires : goal.of_u64-requires
-of_u64-requires c = omega (arith, added_most c.requires.0 c.requires.1)
-
 pub overflow_mul-result : goal.overflow_mul-result
-overflow_mul-result c = let used_fits : SFits w64 c.args.gas.used =
-    search rules in
-    let o2_fits : SFits w64 c.of_u64-2.result =
-    search rules in
-    rw (back used_fits, back o2_fits, c.of_u64-2.ensures) (taken_fits c.requires.0 c.requires.1)
+overflow_mul-result c =
+    let u : SFits w64 c.args.gas.used = search rules in
+    let o : SFits w64 c.of_u64-2.result = search rules in
+    rw (back u, back o, c.of_u64-2.ensures) (taken_fits c.requires.0 c.requires.1)
 
 pub overflow_sub-result : goal.overflow_sub-result
-overflow_sub-result c = let used_fits : SFits w64 c.args.gas.used =
-    search rules in
-    let o2_fits : SFits w64 c.of_u64-2.result =
-    search rules in
-    let plus_fits : SFits w64 c.of_u64.result =
-    search rules in
-    rw (
-      back used_fits,
-      back o2_fits,
-      back plus_fits,
-      c.of_u64-2.ensures,
-      c.of_u64.ensures,
-      back (taken_fits c.requires.0 c.requires.1),
-      sum_diff c.args.gas c.args.air c.args.o2 c.args.co2 c.args.h2o,
-    ) (sum_fits c.requires.0 c.requires.1)
+overflow_sub-result c =
+    let a = c.args in
+    let u : SFits w64 a.gas.used = search rules in
+    let o : SFits w64 c.of_u64-2.result = search rules in
+    let p : SFits w64 c.of_u64.result = search rules in
+    rw (back u, back o, back p, c.of_u64-2.ensures, c.of_u64.ensures, back (taken_fits c.requires.0 c.requires.1), sum_diff a.gas a.air a.o2 a.co2 a.h2o)
+    (sum_fits c.requires.0 c.requires.1)
 
 pub returns : goal.returns
-returns c = let used_fits : SFits w64 c.args.gas.used =
-    search rules in
-    let o2_fits : SFits w64 c.of_u64-2.result =
-    search rules in
-    let plus_fits : SFits w64 c.of_u64.result =
-    search rules in
-    rw (
-      back used_fits,
-      back o2_fits,
-      back plus_fits,
-      c.of_u64-2.ensures,
-      c.of_u64.ensures,
-      back (taken_fits c.requires.0 c.requires.1),
-      sum_diff c.args.gas c.args.air c.args.o2 c.args.co2 c.args.h2o,
-    ) (back (sum_fits c.requires.0 c.requires.1))
+returns c =
+    let a = c.args in
+    let u : SFits w64 a.gas.used = search rules in
+    let o : SFits w64 c.of_u64-2.result = search rules in
+    let p : SFits w64 c.of_u64.result = search rules in
+    rw (back u, back o, back p, c.of_u64-2.ensures, c.of_u64.ensures, back (taken_fits c.requires.0 c.requires.1), sum_diff a.gas a.air a.o2 a.co2 a.h2o)
+    (back (sum_fits c.requires.0 c.requires.1))

@@ -1,10 +1,6 @@
--- `heat_at`: a gas that burns has masses that the heats can be read for: `gas_heat` is the heat of these masses.
-use mathlib.Core.Path.{refl, ◌∙◌}
-use Rattle.gas.proofs.Lines.{ready}
+-- `heat_at`: a gas that burns has masses that the heats can be read for.
+use Rattle.gas.proofs.Lines.{sized_of}
 use Rattle.gas.proofs.inner.heat_at.Goals as goal
 
 pub at_temperature-requires : goal.at_temperature-requires
-at_temperature-requires c = (ready c.requires.0 c.requires.1 c.requires.2 c.weigh.ensures, c.requires.3)
-
-pub returns : goal.returns
-returns c = c.at_temperature.ensures ∙ rw c.weigh.ensures refl
+at_temperature-requires c = (sized_of c.args.at.burns c.weigh.ensures, c.args.at.covered)

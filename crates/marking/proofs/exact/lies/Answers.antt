@@ -33,22 +33,14 @@ cut_decides : (s : ℕ) (f : Fields) (cut : Cut) (lo hi : ℤ) → 0 < s → s �
     → spans (s * sized f.exponent f.fraction) (2 ^ 1074) lo hi ≡ le_z lo (pos cut.floor) && le_z (pos cut.ceiling) hi
 cut_decides s f cut lo hi P S F H at = rw (at.floor, at.ceiling) (placed s f.exponent f.fraction lo hi P S F H)
 
-pub cut_by-size-requires : goal.cut_by-size-requires
-cut_by-size-requires c = record {
-  fact_1 = c.requires.fact_2;
-  fact_2 = rw c.significand_of-digits.ensures (significand_lt c.args.fields.exponent c.args.fields.fraction c.requires.fact_3);
-  fact_3 = omega arith;
-  fact_4 = omega arith;
-}
-
 pub of_u64-requires : goal.of_u64-requires
 of_u64-requires c =
-    (cut_fits c.args.scale c.args.fields c.cut_by-size.result c.requires.fact_2 c.requires.fact_3
+    (cut_fits c.args.scale c.args.fields c.cut_by-size.result c.requires.scale_most c.requires.fraction_most
     (rw (c.significand_of-digits.ensures, c.places_of.ensures) at c.cut_by-size.ensures)).0
 
 pub of_u64-requires-2 : goal.of_u64-requires-2
 of_u64-requires-2 c =
-    (cut_fits c.args.scale c.args.fields c.cut_by-size.result c.requires.fact_2 c.requires.fact_3
+    (cut_fits c.args.scale c.args.fields c.cut_by-size.result c.requires.scale_most c.requires.fraction_most
     (rw (c.significand_of-digits.ensures, c.places_of.ensures) at c.cut_by-size.ensures)).1
 
 pub returns : goal.returns
@@ -57,5 +49,5 @@ returns c =
     let g : SFits w64 c.of_u64-2.result = search rules in
     rw (back c.ranges.lo, back f, back g, back c.ranges.hi, c.of_u64.ensures, c.of_u64-2.ensures)
     (sym
-    (cut_decides c.args.scale c.args.fields c.cut_by-size.result c.args.lo c.args.hi c.requires.fact_1 c.requires.fact_2 c.requires.fact_3 c.requires.fact_4
+    (cut_decides c.args.scale c.args.fields c.cut_by-size.result c.args.lo c.args.hi c.requires.scale_some c.requires.scale_most c.requires.fraction_most c.requires.end_most
     (rw (c.significand_of-digits.ensures, c.places_of.ensures) at c.cut_by-size.ensures)))

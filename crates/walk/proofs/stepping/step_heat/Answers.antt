@@ -12,24 +12,6 @@ use Rattle.walk.specs.Step.{burn_heat}
 use Rattle.walk.proofs.Asking.{burn_fits, brought_fits}
 use Rattle.walk.proofs.stepping.step_heat.Goals as goal
 
-pub overflow_mul-mass_added : goal.overflow_mul-mass_added
-overflow_mul-mass_added c = let small : c.mass_added.result ≤ 650950000 =
-    omega (arith, c.mass_added.ensures, mass_most c.args.gas c.args.p.fuel c.requires.1) in
-    omega (arith, small)
-
-pub of_u64-requires : goal.of_u64-requires
-of_u64-requires c = let small : c.mass_added.result ≤ 650950000 =
-    omega (arith, c.mass_added.ensures, mass_most c.args.gas c.args.p.fuel c.requires.1) in
-    omega (arith, small)
-
-pub overflow_mul-burn : goal.overflow_mul-burn
-overflow_mul-burn c = let fit_value : SFits w64 c.args.p.value =
-    search rules in
-    let small : c.mass_added.result ≤ 650950000 =
-    omega (arith, c.mass_added.ensures, mass_most c.args.gas c.args.p.fuel c.requires.1) in
-    let f : SFits w64 c.of_u64.result = search rules in
-    rw (back f, back fit_value, c.of_u64.ensures) (burn_fits c.args.p c.requires.2 _ small)
-
 pub overflow_add-result : goal.overflow_add-result
 overflow_add-result c = let fit_value : SFits w64 c.args.p.value =
     search rules in

@@ -1,37 +1,10 @@
--- `target`: each sum on the way from the held heat to the asked one fits, by `InReach`.
+-- `target`: each sum on the way from the held heat to the asked one fits, by `InReach`, so it is read as it is.
 use borrow.Author.Rules.{rules}
 use mir.Val.{SFits}
 use mir.Syntax.{w64}
 use Rattle.signed.specs.Zed.{back}
 use Rattle.walk.proofs.Asking.{held_fits, with_brought_fits, target_fits}
 use Rattle.walk.proofs.stepping.target.Goals as goal
-
-pub overflow_sub-result : goal.overflow_sub-result
-overflow_sub-result c = let fit_heat : SFits w64 c.args.heat.0 =
-    search rules in
-    let fit_fifteen : SFits w64 c.args.fifteen.0 =
-    search rules in
-    rw (back fit_heat, back fit_fifteen) (held_fits c.requires)
-
-pub overflow_add-result : goal.overflow_add-result
-overflow_add-result c = let fit_heat : SFits w64 c.args.heat.0 =
-    search rules in
-    let fit_fifteen : SFits w64 c.args.fifteen.0 =
-    search rules in
-    let fit_brought : SFits w64 c.args.brought.0 =
-    search rules in
-    rw (back fit_heat, back fit_fifteen, back (held_fits c.requires), back fit_brought) (with_brought_fits c.requires)
-
-pub overflow_add-result-2 : goal.overflow_add-result-2
-overflow_add-result-2 c = let fit_heat : SFits w64 c.args.heat.0 =
-    search rules in
-    let fit_fifteen : SFits w64 c.args.fifteen.0 =
-    search rules in
-    let fit_brought : SFits w64 c.args.brought.0 =
-    search rules in
-    let fit_new : SFits w64 c.args.new.0 =
-    search rules in
-    rw (back fit_heat, back fit_fifteen, back (held_fits c.requires), back fit_brought, back (with_brought_fits c.requires), back fit_new) (target_fits c.requires)
 
 pub returns : goal.returns
 returns c = let fit_heat : SFits w64 c.args.heat.0 =

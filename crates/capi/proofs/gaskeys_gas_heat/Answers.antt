@@ -1,9 +1,0 @@
--- `gaskeys_gas_heat`: what `gas::gas_heat` tells of the charge, laid out in a struct.
-use mathlib.Core.Path.{◌∙◌, ap}
-use Rattle.signed.specs.Zed.{back}
-use Rattle.telling.specs.Flat.{flat_heat}
-use Rattle.capi.proofs.gaskeys_gas_heat.Goals as goal
-
-pub returns : goal.returns
-returns c = rw (← back c.ranges.air, ← back c.ranges.carbon, ← back c.ranges.hydrogen, ← back c.ranges.millikelvin)
-    (c.tell_heat.ensures ∙ ap flat_heat (rw c.charge_in-charge.ensures at c.gas_heat.ensures))

@@ -1,0 +1,13 @@
+// A sheet with the list that it was judged on.
+ghost use Rattle.console.specs.Answers.{Judged, verdict_in};
+
+use refusal::Refusal;
+use sheet::AcceptedSheet;
+
+// The sheet of a list, accepted or refused: its verdict is the judge's on that list, or that on the text that the list was read from.
+#[derive(Clone, Copy)]
+pub(crate) struct Verdict<'a> {
+    pub sheet: Result<AcceptedSheet<'a>, Refusal>,
+    pub list: &'a [u32; sheet::NUMBERS],
+    pub ghost judged: { ∥ Judged (verdict_in sheet) list.now ∥₁ },
+}

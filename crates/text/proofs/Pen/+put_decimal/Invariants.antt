@@ -1,0 +1,5 @@
+-- `put_decimal` calls itself on a tenth of the number, which is smaller. Measure: the number.
+use Rattle.text.proofs.Pen.+put_decimal.Given as goal
+
+abbrev pub decreases-put_decimal : goal.decreases-put_decimal
+decreases-put_decimal l = l.n
