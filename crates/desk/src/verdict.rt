@@ -1,4 +1,5 @@
 // A sheet with the list that it was judged on.
+ghost use Rattle.std.specs.Prelude.{IfOk, ◌≡◌};
 ghost use Rattle.console.specs.Answers.{Judged, verdict_in};
 
 use refusal::Refusal;
@@ -10,4 +11,5 @@ pub(crate) struct Verdict<'a> {
     pub sheet: Result<AcceptedSheet<'a>, Refusal>,
     pub list: &'a [u32; sheet::NUMBERS],
     pub ghost judged: { ∥ Judged (verdict_in sheet) list.now ∥₁ },
+    pub ghost same: { ∥ IfOk sheet (λ s. s.list.now ≡ list.now) ∥₁ },
 }

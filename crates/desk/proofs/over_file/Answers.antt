@@ -8,4 +8,4 @@ pub invariant_of-serve : goal.invariant_of-serve
 invariant_of-serve g c =
     let b : length c.args.list.now ≡ sheet_numbers = omega arith in
     let n : length c.read_file.new.list ≡ sheet_numbers = omega arith in
-    record { judged = ∣ came_judged c.args.list.now b n c.read_file.ensures c.in-Ok.is c.accept-sheet.ensures.verdict ∣₁ }
+    record { judged = ∣ came_judged c.args.list.now b n c.read_file.ensures c.in-Ok.is c.accept-sheet.ensures.verdict ∣₁; same = ∣ c.accept-sheet.ensures.same ∣₁ }
