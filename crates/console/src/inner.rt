@@ -7,6 +7,7 @@ ghost use Rattle.console.specs.Answers.{verdict_in, list_in, line_text, answer_o
 ghost use Rattle.console.specs.Walks.{walk_told, printed_walk};
 
 pub use crate::columns::Table;
+pub use crate::judged::JudgedSheet;
 use crate::rest::Rest;
 use crate::walks::Layout;
 use crate::{replies, requests, rest, walks};
@@ -18,15 +19,10 @@ use text::Pen;
 use walk::Course;
 
 // The answer to a request line, its line feed with it, over a sheet that was judged when it was read.
-pub fn answer_judged(
-    line: &[u8],
-    sheet: Result<AcceptedSheet<'_>, Refusal>,
-    table: Table<'_>,
-    pen: &mut Pen<'_>,
-)
-    ensures { WroteAtMost answer_room (answer_of (verdict_in sheet.entry) (list_in sheet.entry) line.now) pen.old pen.new }
+pub fn answer_judged(line: &[u8], judged: JudgedSheet<'_>, table: Table<'_>, pen: &mut Pen<'_>)
+    ensures { WroteAtMost answer_room (answer_of (verdict_in judged.entry.sheet) (list_in judged.entry.sheet) line.now) pen.old pen.new }
 {
-    put_reply(line, sheet, table, pen);
+    put_reply(line, judged.sheet, table, pen);
     pen.put_byte(10);
 }
 
@@ -53,11 +49,11 @@ pub fn print_judged(
     charge: Charge,
     t: Millikelvin,
     steps: &[i64],
-    sheet: Result<AcceptedSheet<'_>, Refusal>,
+    judged: JudgedSheet<'_>,
     pen: &mut Pen<'_>,
 ) -> Result<Course, Refusal>
-    ensures puts { WroteAtMost page_room (printed_walk (walk_told (verdict_in sheet.entry) (list_in sheet.entry) charge t.0 steps.now)) pen.old pen.new }
-    ensures answer_value { paper_walk result ≡ course (walk_told (verdict_in sheet.entry) (list_in sheet.entry) charge t.0 steps.now) }
+    ensures puts { WroteAtMost page_room (printed_walk (walk_told (verdict_in judged.entry.sheet) (list_in judged.entry.sheet) charge t.0 steps.now)) pen.old pen.new }
+    ensures answer_value { paper_walk result ≡ course (walk_told (verdict_in judged.entry.sheet) (list_in judged.entry.sheet) charge t.0 steps.now) }
 {
-    walks::show(Layout::Page, charge, t, steps, sheet, pen)
+    walks::show(Layout::Page, charge, t, steps, judged.sheet, pen)
 }

@@ -5,6 +5,7 @@
 
 mod columns;
 pub mod inner;
+mod judged;
 mod marks;
 mod replies;
 mod requests;
@@ -20,6 +21,7 @@ ghost use Rattle.console.specs.Walks.{walk_told, printed_walk};
 use air::Millikelvin;
 use burning::Charge;
 use columns::Table;
+use judged::JudgedSheet;
 use text::Pen;
 
 // no answer line is longer, and no printed walk (specs/Limits.antt)
@@ -39,7 +41,11 @@ pub fn answer(line: &[u8], sheet: &[u32], out: &mut [u8], at: usize) -> usize
         psis: &psis,
         cps: &cps,
     };
-    let judged = sheet::inner::judge(sheet, &heats);
+    let found = sheet::inner::judge(sheet, &heats);
+    let judged = JudgedSheet {
+        sheet: found,
+        list: sheet,
+    };
     let mut pen = Pen { buf: out, at };
     inner::answer_judged(line, judged, table, &mut pen);
     pen.at
@@ -57,7 +63,11 @@ pub fn print_walk(
     ensures { Puts page_room (printed_walk (walk_told (Ok tt) sheet.now charge t.0 steps.now)) out.old at result out.new }
 {
     let heats = rows::columns::heat_column();
-    let judged = sheet::inner::judge(sheet, &heats);
+    let found = sheet::inner::judge(sheet, &heats);
+    let judged = JudgedSheet {
+        sheet: found,
+        list: sheet,
+    };
     let mut pen = Pen { buf: out, at };
     let _ = inner::print_judged(charge, t, steps, judged, &mut pen);
     pen.at

@@ -10,9 +10,7 @@ ghost use Rattle.desk.specs.Asking.{held_answer};
 
 use crate::buffers::{PIECE, zeros};
 use crate::lines;
-use console::inner::Table;
-use refusal::Refusal;
-use sheet::AcceptedSheet;
+use console::inner::{JudgedSheet, Table};
 use std::io::Read;
 use stream::{Held, Output};
 use text::Pen;
@@ -32,7 +30,7 @@ fn output() -> [u8; OUTPUT]
 pub(crate) fn ask<R: Input + Print, E: Print>(
     rt: &R,
     errors: &E,
-    sheet: Result<AcceptedSheet<'_>, Refusal>,
+    judged: JudgedSheet<'_>,
     table: Table<'_>,
 ) {
     let mut input = rt.reader();
@@ -40,7 +38,7 @@ pub(crate) fn ask<R: Input + Print, E: Print>(
     let mut line = lines::places();
     let mut out = output();
     answer_lines(
-        &mut input, rt, errors, sheet, table, &mut piece, &mut line, &mut out,
+        &mut input, rt, errors, judged, table, &mut piece, &mut line, &mut out,
     );
 }
 
@@ -49,7 +47,7 @@ fn answer_lines<I: Read, W: Print, E: Print>(
     input: &mut I,
     to: &W,
     errors: &E,
-    sheet: Result<AcceptedSheet<'_>, Refusal>,
+    judged: JudgedSheet<'_>,
     table: Table<'_>,
     piece: &mut [u8],
     line: &mut [u8],
@@ -75,7 +73,7 @@ fn answer_lines<I: Read, W: Print, E: Print>(
         let Ok(Some(held)) = next.line else {
             return;
         };
-        output = answer_held(to, errors, held, line, sheet, table, out, next.output);
+        output = answer_held(to, errors, held, line, judged, table, out, next.output);
     }
 }
 
@@ -85,7 +83,7 @@ fn answer_held<W: Print, E: Print>(
     errors: &E,
     held: Held,
     line: &[u8],
-    sheet: Result<AcceptedSheet<'_>, Refusal>,
+    judged: JudgedSheet<'_>,
     table: Table<'_>,
     out: &mut [u8],
     output: Output,
@@ -94,7 +92,7 @@ fn answer_held<W: Print, E: Print>(
     ensures { Leaves output out.old result out.new }
 {
     let at = output?;
-    let next = put_answer(held, line, sheet, table, out, at);
+    let next = put_answer(held, line, judged, table, out, at);
     stream::make_room(to, errors, out, Some(next))
 }
 
@@ -102,31 +100,25 @@ fn answer_held<W: Print, E: Print>(
 fn put_answer(
     held: Held,
     line: &[u8],
-    sheet: Result<AcceptedSheet<'_>, Refusal>,
+    judged: JudgedSheet<'_>,
     table: Table<'_>,
     out: &mut [u8],
     at: usize,
 ) -> usize
     requires { at + answer_room ≤ length out.old }
-    ensures { Stands (held_answer (verdict_in sheet.entry) (list_in sheet.entry) held line.now) out.old at result out.new }
+    ensures { Stands (held_answer (verdict_in judged.entry.sheet) (list_in judged.entry.sheet) held line.now) out.old at result out.new }
 {
     let mut pen = Pen { buf: out, at };
-    put_held(held, line, sheet, table, &mut pen);
+    put_held(held, line, judged, table, &mut pen);
     pen.at
 }
 
 // The same with a pen.
-fn put_held(
-    held: Held,
-    line: &[u8],
-    sheet: Result<AcceptedSheet<'_>, Refusal>,
-    table: Table<'_>,
-    pen: &mut Pen<'_>,
-)
-    ensures { WroteAtMost answer_room (held_answer (verdict_in sheet.entry) (list_in sheet.entry) held line.now) pen.old pen.new }
+fn put_held(held: Held, line: &[u8], judged: JudgedSheet<'_>, table: Table<'_>, pen: &mut Pen<'_>)
+    ensures { WroteAtMost answer_room (held_answer (verdict_in judged.entry.sheet) (list_in judged.entry.sheet) held line.now) pen.old pen.new }
 {
     match held {
-        Some(n) => console::inner::answer_judged(lines::first_bytes(n, line), sheet, table, pen),
+        Some(n) => console::inner::answer_judged(lines::first_bytes(n, line), judged, table, pen),
         None => pen.put_text(b"error\tthe line is too long\n"),
     }
 }

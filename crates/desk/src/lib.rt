@@ -9,13 +9,11 @@ mod lines;
 mod pages;
 mod questions;
 mod sheets;
-mod verdict;
 
-use console::inner::Table;
+use console::inner::{JudgedSheet, Table};
 use forms::arguments::{Form, Job};
 use std::io;
 use std::rt::{Env, Files};
-use verdict::Verdict;
 
 // Does what the arguments ask for. Answers are printed, and lines on standard error go to `errors`.
 pub fn run<R: Files + Env + io::Input + Print, E: Print>(rt: &R, errors: &E) {
@@ -48,8 +46,8 @@ fn over_sheet<R: Files + Env + io::Input + Print, E: Print>(
     match named {
         None => {
             let sheet = sheet::inner::judge(&list, &heats);
-            let verdict = Verdict { sheet, list: &list };
-            serve(rt, errors, job, verdict, table);
+            let judged = JudgedSheet { sheet, list: &list };
+            serve(rt, errors, job, judged, table);
         }
         Some(i) => over_file(rt, errors, job, i, &mut list, table),
     }
@@ -67,7 +65,7 @@ fn over_file<R: Files + Env + io::Input + Print, E: Print>(
     if let Ok(intake) = sheets::read_file(rt, errors, i, list) {
         let sheet = forms::sheets::accept(intake.reading, list, table.heats);
         pages::say_return(errors, sheet.map(|_| ()), intake.returned);
-        serve(rt, errors, job, Verdict { sheet, list }, table);
+        serve(rt, errors, job, JudgedSheet { sheet, list }, table);
     }
 }
 
@@ -76,14 +74,13 @@ fn serve<R: Files + Env + io::Input + Print, E: Print>(
     rt: &R,
     errors: &E,
     job: Job,
-    verdict: Verdict<'_>,
+    judged: JudgedSheet<'_>,
     table: Table<'_>,
 ) {
-    let sheet = verdict.sheet;
     match job {
-        Job::Example => pages::print_example(rt, errors, sheet),
-        Job::Walk(named) => questions::print(rt, errors, named, sheet),
-        Job::Ask => asking::ask(rt, errors, sheet, table),
-        Job::Write => sheets::write(rt, errors, sheet),
+        Job::Example => pages::print_example(rt, errors, judged),
+        Job::Walk(named) => questions::print(rt, errors, named, judged),
+        Job::Ask => asking::ask(rt, errors, judged, table),
+        Job::Write => sheets::write(rt, errors, judged),
     }
 }

@@ -1,10 +1,11 @@
 // What is printed whole, and the lines on standard error, as `forms` puts them.
 ghost use Rattle.std.specs.Prelude.{◌≡◌, length};
+ghost use Rattle.forms.specs.Limits.{example_room};
 
 use crate::buffers::{ARGUMENT, zeros};
+use console::inner::JudgedSheet;
 use forms::pages;
 use refusal::Refusal;
-use sheet::AcceptedSheet;
 
 // Says on standard error what is put into the places for it.
 pub(crate) fn say<E: Print, F: FnOnce(&mut [u8; ARGUMENT]) -> usize>(errors: &E, put: F)
@@ -50,13 +51,17 @@ pub(crate) fn say_verdict<E: Print>(errors: &E, verdict: Result<(), Refusal>) {
     say(errors, |out| pages::put_verdict_note(verdict, out));
 }
 
+// Places for the built-in example.
+// stays: a function of its own, since its clause says that EXAMPLE_ROOM is the example's room of the limits
+fn example() -> [u8; pages::EXAMPLE_ROOM]
+    ensures { example_room ≡ length result }
+{
+    zeros()
+}
+
 // Prints the built-in example, and how to go on.
-pub(crate) fn print_example<W: Print, E: Print>(
-    to: &W,
-    errors: &E,
-    sheet: Result<AcceptedSheet<'_>, Refusal>,
-) {
-    let mut out = zeros::<{ pages::EXAMPLE_ROOM }>();
-    let end = pages::put_example(sheet, &mut out);
+pub(crate) fn print_example<W: Print, E: Print>(to: &W, errors: &E, judged: JudgedSheet<'_>) {
+    let mut out = example();
+    let end = pages::put_example(judged, &mut out);
     stream::flush(to, errors, &out, Some(end));
 }

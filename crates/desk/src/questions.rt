@@ -1,15 +1,16 @@
 // `keys walk`: a question is read line by line, four numbers a line: first A, c, h, mK, then c, h, calorific value, q for each step; and its walk is printed.
 // Nothing is printed before the whole question is read, and nothing but a line on standard error where a line is not four numbers.
 ghost use Rattle.std.specs.Prelude.{◌≤◌, ◌≡◌, length};
+ghost use Rattle.console.specs.Limits.{page_room};
 ghost use Rattle.forms.specs.Limits.{kept_numbers};
 
 use crate::buffers::{ARGUMENT, PIECE, zeros};
 use crate::pages::say;
 use crate::{arguments, lines};
+use console::inner::JudgedSheet;
 use forms::questions::BadLine;
 use forms::{pages, questions};
 use refusal::Refusal;
-use sheet::AcceptedSheet;
 use std::io;
 use std::io::Read;
 use std::rt::{Env, Files};
@@ -21,11 +22,11 @@ pub(crate) fn print<R: Files + Env + io::Input + Print, E: Print>(
     rt: &R,
     errors: &E,
     named: Option<usize>,
-    sheet: Result<AcceptedSheet<'_>, Refusal>,
+    judged: JudgedSheet<'_>,
 ) {
     match named {
-        None => print_from(&mut rt.reader(), rt, errors, b"standard input", sheet),
-        Some(i) => print_file(rt, errors, i, sheet),
+        None => print_from(&mut rt.reader(), rt, errors, b"standard input", judged),
+        Some(i) => print_file(rt, errors, i, judged),
     }
 }
 
@@ -34,12 +35,12 @@ fn print_file<R: Files + Env + Print, E: Print>(
     rt: &R,
     errors: &E,
     i: usize,
-    sheet: Result<AcceptedSheet<'_>, Refusal>,
+    judged: JudgedSheet<'_>,
 ) {
     let mut name = zeros::<ARGUMENT>();
     let n = arguments::show(rt, i, &mut name);
     if let Ok(mut file) = arguments::open(rt, errors, i, &name[..n]) {
-        print_from(&mut file, rt, errors, &name[..n], sheet);
+        print_from(&mut file, rt, errors, &name[..n], judged);
     }
 }
 
@@ -49,13 +50,13 @@ fn print_from<I: Read, W: Print, E: Print>(
     to: &W,
     errors: &E,
     name: &[u8],
-    sheet: Result<AcceptedSheet<'_>, Refusal>,
+    judged: JudgedSheet<'_>,
 ) {
     let mut piece = zeros::<PIECE>();
     let mut line = lines::places();
     let mut numbers = [0i64; questions::KEPT_NUMBERS];
     if let Ok(question) = read_all(input, to, errors, name, &mut piece, &mut line, &mut numbers) {
-        print_question(to, errors, question, &numbers, sheet);
+        print_question(to, errors, question, &numbers, judged);
     }
 }
 
@@ -65,11 +66,11 @@ fn print_question<W: Print, E: Print>(
     errors: &E,
     question: Result<u64, BadLine>,
     numbers: &[i64; questions::KEPT_NUMBERS],
-    sheet: Result<AcceptedSheet<'_>, Refusal>,
+    judged: JudgedSheet<'_>,
 ) {
     match question {
         Ok(0) => say_bad(errors, 1),
-        Ok(lines) => print_walk(to, errors, lines, numbers, sheet),
+        Ok(lines) => print_walk(to, errors, lines, numbers, judged),
         Err(BadLine::Numbers(line)) => say_bad(errors, line),
         Err(BadLine::Returned(line)) => say_returned(errors, line),
     }
@@ -109,20 +110,28 @@ fn read_all<I: Read, W: Print, E: Print>(
     Ok(question)
 }
 
+// Places for a printed walk.
+// stays: a function of its own, since its clause says that PAGE_ROOM is the page's room of the limits
+fn page() -> [u8; console::PAGE_ROOM]
+    ensures { page_room ≡ length result }
+{
+    zeros()
+}
+
 // Prints the walk of a question of so many lines.
 fn print_walk<W: Print, E: Print>(
     to: &W,
     errors: &E,
     lines: u64,
     numbers: &[i64; questions::KEPT_NUMBERS],
-    sheet: Result<AcceptedSheet<'_>, Refusal>,
+    judged: JudgedSheet<'_>,
 )
     requires { 1 ≤ lines }
 {
-    let mut out = zeros::<{ console::PAGE_ROOM }>();
-    let printed = questions::put_page(lines, numbers, sheet, &mut out, 0);
+    let mut out = page();
+    let printed = questions::put_page(lines, numbers, judged, &mut out, 0);
     stream::flush(to, errors, &out, Some(printed.end));
-    say_refusal(errors, sheet.map(|_| ()), printed.answer);
+    say_refusal(errors, judged.sheet.map(|_| ()), printed.answer);
 }
 
 // Says on standard error whose refusal the page ends in, where it ends in one.

@@ -1,13 +1,15 @@
 // Sheets: read from an input piece by piece as it comes, judged once, reported; and a sheet's text printed. An input is read up to the byte that decides that its text is refused, or
 // to its end, however long it is.
+ghost use Rattle.std.specs.Prelude.{◌≡◌, length};
+ghost use Rattle.sheet_text.specs.Limits.{most_text};
 ghost use Rattle.desk.specs.Sheets.{Arrived};
 
 use crate::buffers::{ARGUMENT, PIECE, zeros};
 use crate::{arguments, pages};
+use console::inner::JudgedSheet;
 use forms::sheets;
 use forms::sheets::Intake;
-use refusal::Refusal;
-use sheet::{AcceptedSheet, pieces};
+use sheet::pieces;
 use std::io;
 use std::io::Read;
 use std::rt::{Env, Files};
@@ -98,14 +100,19 @@ pub(crate) fn report<R: Files + Env + io::Input + Print, E: Print>(
     }
 }
 
-// Prints the text of a sheet, or its refusal, which is said on standard error too: a text is often written to a file that nobody looks at.
-pub(crate) fn write<W: Print, E: Print>(
-    to: &W,
-    errors: &E,
-    sheet: Result<AcceptedSheet<'_>, Refusal>,
-) {
-    let mut out = zeros::<{ sheet_text::MOST_TEXT }>();
-    let end = sheets::put_sheet(sheet, &mut out);
+// Places for the text of a sheet.
+// stays: a function of its own, since its clause says that MOST_TEXT is the most bytes of a text of the limits
+fn sheet_places() -> [u8; sheet_text::MOST_TEXT]
+    ensures { most_text ≡ length result }
+{
+    zeros()
+}
+
+// Prints the text of a sheet that was judged, or its refusal, which is said on standard error too: a text is often written to a file that nobody looks at.
+pub(crate) fn write<W: Print, E: Print>(to: &W, errors: &E, judged: JudgedSheet<'_>) {
+    let mut out = sheet_places();
+    let verdict = judged.sheet.map(|_| ());
+    let end = sheets::put_sheet(verdict, judged.list, &mut out);
     stream::flush(to, errors, &out, Some(end));
-    pages::say_verdict(errors, sheet.map(|_| ()));
+    pages::say_verdict(errors, verdict);
 }

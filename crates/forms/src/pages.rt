@@ -10,8 +10,8 @@ ghost use Rattle.forms.specs.Limits.{usage_room, example_room, note_room};
 ghost use Rattle.forms.specs.Pages.{usage_text, example_page, version_text, misplaced_text, row_returned, line_returned, expected, line_bad, sheet_note, verdict_note, walk_note, refusal_note, return_note};
 
 use air::Millikelvin;
+use console::inner::JudgedSheet;
 use refusal::Refusal;
-use sheet::AcceptedSheet;
 use text::Pen;
 use walk::Course;
 
@@ -74,14 +74,14 @@ pub fn put_no_form(out: &mut [u8]) -> usize
 }
 
 // Document 01's walk, A 1, no fuel, from 200,000 mK, and how to go on.
-pub fn put_example(sheet: Result<AcceptedSheet<'_>, Refusal>, out: &mut [u8]) -> usize
+pub fn put_example(judged: JudgedSheet<'_>, out: &mut [u8]) -> usize
     requires { example_room ≤ length out.old }
-    ensures { Stands (example_page (verdict_in sheet.entry) (list_in sheet.entry)) out.old 0 result out.new }
+    ensures { Stands (example_page (verdict_in judged.entry.sheet) (list_in judged.entry.sheet)) out.old 0 result out.new }
 {
     let steps = [0i64, 0, 0, 1_200_000_001, 0, 0, 0, 2_400_000];
     let start = burning::inner::charge_in(&[1i64, 0, 0]);
     let mut pen = Pen { buf: out, at: 0 };
-    let _ = console::inner::print_judged(start, Millikelvin(200_000), &steps, sheet, &mut pen);
+    let _ = console::inner::print_judged(start, Millikelvin(200_000), &steps, judged, &mut pen);
     pen.put_byte(10);
     put_usage(&mut pen);
     pen.at

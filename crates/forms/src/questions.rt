@@ -10,8 +10,8 @@ ghost use Rattle.forms.specs.Limits.{kept_numbers, kept_lines};
 ghost use Rattle.forms.specs.inner.Taking.{one_more, kept_line, with_next, numbers_next, with_line, numbers_with, question_told};
 
 use air::Millikelvin;
+use console::inner::JudgedSheet;
 use refusal::Refusal;
-use sheet::AcceptedSheet;
 use text::Pen;
 use walk::Course;
 
@@ -96,20 +96,20 @@ fn kept(lines: u64) -> usize
 pub fn put_page(
     lines: u64,
     numbers: &[i64; KEPT_NUMBERS],
-    sheet: Result<AcceptedSheet<'_>, Refusal>,
+    judged: JudgedSheet<'_>,
     out: &mut [u8],
     at: usize,
 ) -> Printed
     requires { (1 ≤ lines) × (at + page_room ≤ length out.old) }
-    ensures stands { Stands (printed_walk (question_told (verdict_in sheet.entry) (list_in sheet.entry) lines numbers.now)) out.old at result.end out.new }
-    ensures answer_value { paper_walk result.answer ≡ course (question_told (verdict_in sheet.entry) (list_in sheet.entry) lines numbers.now) }
+    ensures stands { Stands (printed_walk (question_told (verdict_in judged.entry.sheet) (list_in judged.entry.sheet) lines numbers.now)) out.old at result.end out.new }
+    ensures answer_value { paper_walk result.answer ≡ course (question_told (verdict_in judged.entry.sheet) (list_in judged.entry.sheet) lines numbers.now) }
 {
     let start = burning::inner::charge_in(numbers);
     let t = Millikelvin(numbers[burning::inner::CHARGE_NUMBERS]);
     let end = walk::STEP_NUMBERS * kept(lines);
     let steps = &numbers[walk::STEP_NUMBERS..end];
     let mut pen = Pen { buf: out, at };
-    let answer = console::inner::print_judged(start, t, steps, sheet, &mut pen);
+    let answer = console::inner::print_judged(start, t, steps, judged, &mut pen);
     Printed {
         end: pen.at,
         answer,

@@ -7,9 +7,9 @@ use sheet::AcceptedSheet;
 
 // The sheet of a list, accepted or refused: its verdict is the judge's on that list, or that on the text that the list was read from.
 #[derive(Clone, Copy)]
-pub(crate) struct Verdict<'a> {
+pub struct JudgedSheet<'a> {
     pub sheet: Result<AcceptedSheet<'a>, Refusal>,
-    pub list: &'a [u32; sheet::NUMBERS],
+    pub list: &'a [u32],
     pub ghost judged: { ∥ Judged (verdict_in sheet) list.now ∥₁ },
     pub ghost same: { ∥ IfOk sheet (λ s. s.list.now ≡ list.now) ∥₁ },
 }
