@@ -5,7 +5,8 @@ use Rattle.std.proofs.Common.{sym, ap, ◌∙◌, inl, inr, ⊎_elim, arith}
 use Rattle.refusal.specs.declared.Refusal.{Refusal}
 use Rattle.refusal.specs.declared.Refusal.TheVariants.{ListLength, Form, BadRow, Limit, Rich, Temperature, StepHeat, Below, Above, ShortList, NoNumber, OutOfRange, Steps, ShortBuffer, Other}
 use Rattle.refusal.specs.Named.{is_named}
-use Rattle.refusal.specs.Refusals.{Numbered, Plain, At, numbered_at, numbered, number_of, place_of, told_as, told_of, Told, gives, refused, Line, told_by, condition, first, First, here, after, Clear, none, clear, Demand1}
+use Rattle.refusal.specs.Refusals.{Numbered, Plain, At, numbered_at, numbered, number_of, place_of}
+use Rattle.refusal.specs.Refusals.{told_as, told_of, Told, gives, refused, Line, told_by, condition, first, First, here, after, Clear, none, clear, Demand1}
 use Rattle.refusal.specs.BoolLaws.{by_bool, by_true, by_false}
 
 -- the values are no refusal
