@@ -1,3 +1,4 @@
+pub mod Named
 pub mod Refusals
 pub mod BoolLaws
 pub mod RefusalsLaws

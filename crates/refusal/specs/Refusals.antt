@@ -2,12 +2,17 @@
 -- order, each a number with the condition that it is given for; the call tells the first line whose condition holds, else its values.
 use Rattle.std.specs.Prelude.{Bool, true, false, cond, List, [], ◌∷◌, ◌↔◌, ◌≡◌, ℕ, Option, Some, None, Result, Ok, Err}
 use Rattle.refusal.specs.declared.Refusal.{Refusal}
-use Rattle.refusal.specs.declared.Refusal.TheVariants.{ListLength, Form, BadRow, Limit, Rich, Temperature, StepHeat, Below, Above, ShortList, NoNumber, OutOfRange, Steps, ShortBuffer}
+use Rattle.refusal.specs.declared.Refusal.TheVariants.{ListLength, Form, BadRow, Limit, Rich, Temperature, StepHeat, Below, Above, ShortList, NoNumber, OutOfRange, Steps, ShortBuffer, Other}
 
 -- a refusal as the paper numbers it; for 2 and 3 with the place that it is given for, the row
 pub data Numbered : Type 0 where
   Plain : ℕ → Numbered
   At : ℕ → ℕ → Numbered
+
+-- any number, given for a row or for none
+abbrev pub numbered_at : ℕ → Option ℕ → Numbered
+numbered_at n None = Plain n
+numbered_at n (Some row) = At n row
 
 -- the paper's number of each
 abbrev pub numbered : Refusal → Numbered
@@ -25,6 +30,7 @@ numbered NoNumber = Plain 11
 numbered OutOfRange = Plain 12
 numbered Steps = Plain 13
 numbered ShortBuffer = Plain 14
+numbered (Other u) = numbered_at u.number u.row
 
 -- the values of an answer, or a refusal
 pub data Told (A : Type 0) : Type 0 where

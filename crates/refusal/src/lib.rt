@@ -3,6 +3,17 @@
 // (specs/Refusals.antt, specs/RefusalsLaws.antt).
 #![tactic(auto)]
 
+ghost use Rattle.std.specs.Prelude.{◌≡◌, false};
+ghost use Rattle.refusal.specs.Named.{is_named};
+
+// A refusal that the paper does not name: none of this repository's calls gives one, and what tells or words a refusal takes every number.
+#[derive(Clone, Copy, Debug, PartialEq, Eq)]
+pub struct Unnamed {
+    pub number: u32,
+    pub row: Option<u32>,
+    pub ghost unnamed: { is_named number row ≡ false },
+}
+
 // Why a call gives no values. Two are given for a row, the first that is bad.
 #[derive(Clone, Copy, Debug, PartialEq, Eq)]
 pub enum Refusal {
@@ -34,10 +45,11 @@ pub enum Refusal {
     Steps,
     // 14: a lent buffer is shorter than the text
     ShortBuffer,
+    // any other number, for whatever tells or words it
+    Other(Unnamed),
 }
 
 impl Refusal {
-    ghost use Rattle.std.specs.Prelude.{◌≡◌};
     ghost use Rattle.refusal.specs.Refusals.{number_of, numbered, place_of};
 
     // The number that the paper gives it.
@@ -59,6 +71,7 @@ impl Refusal {
             Refusal::OutOfRange => 12,
             Refusal::Steps => 13,
             Refusal::ShortBuffer => 14,
+            Refusal::Other(unnamed) => unnamed.number,
         }
     }
 
@@ -69,6 +82,7 @@ impl Refusal {
         match self {
             Refusal::Form(row) => Some(row),
             Refusal::BadRow(row) => Some(row),
+            Refusal::Other(unnamed) => unnamed.row,
             _ => None,
         }
     }
