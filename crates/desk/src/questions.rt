@@ -2,7 +2,6 @@
 // Nothing is printed before the whole question is read, and nothing but a line on standard error where a line is not four numbers.
 ghost use Rattle.std.specs.Prelude.{◌≤◌, ◌≡◌, length};
 ghost use Rattle.console.specs.Limits.{page_room};
-ghost use Rattle.forms.specs.Limits.{kept_numbers};
 
 use crate::buffers::{ARGUMENT, PIECE, zeros};
 use crate::pages::say;
@@ -44,14 +43,6 @@ fn print_file<R: Files + Env + Print, E: Print>(
     }
 }
 
-// Places for the numbers of a question.
-// stays: a function of its own, since its clause says that KEPT_NUMBERS is how many the limits keep
-fn number_places() -> [i64; questions::KEPT_NUMBERS]
-    ensures { kept_numbers ≡ length result }
-{
-    [0; questions::KEPT_NUMBERS]
-}
-
 // Prints the walk of an input's question, or says what is wrong with it.
 fn print_from<I: Read, W: Print, E: Print>(
     input: &mut I,
@@ -62,7 +53,7 @@ fn print_from<I: Read, W: Print, E: Print>(
 ) {
     let mut piece = zeros::<PIECE>();
     let mut line = lines::places();
-    let mut numbers = number_places();
+    let mut numbers = questions::places();
     if let Ok(question) = read_all(input, to, errors, name, &mut piece, &mut line, &mut numbers) {
         print_question(to, errors, question, &numbers, judged);
     }

@@ -21,6 +21,13 @@ const KEPT_LINES: u64 = walk::MOST_STEPS as u64 + 2;
 // How many numbers are kept of a question.
 pub const KEPT_NUMBERS: usize = walk::STEP_NUMBERS * (walk::MOST_STEPS + 2);
 
+// Places for the numbers of a question.
+pub fn places() -> [i64; KEPT_NUMBERS]
+    ensures { kept_numbers ≡ length result }
+{
+    [0; KEPT_NUMBERS]
+}
+
 // Why a text is no question: the number of its first line that is not as many numbers as a step has, or that has a carriage return.
 #[derive(Clone, Copy)]
 pub enum BadLine {
