@@ -143,10 +143,10 @@ impl Pen<'_> {
     pub fn put_text(&mut self, text: &[u8])
         ensures { Wrote text.now self.old self.new }
     {
-        self.at = self.at.min(self.buf.len());
-        for b in text {
-            self.put_byte(*b);
-        }
+        let at = self.at.min(self.buf.len());
+        let n = text.len().min(self.buf.len() - at);
+        self.buf[at..at + n].copy_from_slice(&text[..n]);
+        self.at = at + n;
     }
 
     // A number in decimal.
