@@ -24,15 +24,16 @@ use sheet_text::writing;
 pub fn read_sheet(text: &[u8], list: &mut [u32]) -> Result<(), Refusal>
     ensures { SheetRead text.now list.old result list.new }
 {
-    let Some(list) = list.as_mut_array::<NUMBERS>() else {
+    let fits = list.len() == NUMBERS;
+    if !fits {
         return Err(Refusal::ListLength);
-    };
+    }
     let mut numbers = [0u32; NUMBERS];
     let s = sheet_text::fill(sheet_text::start(), text, &mut numbers);
     if !sheet_text::whole_sheet(s) {
         return Err(Refusal::Form(sheet_text::row_of(s)));
     }
-    inner::copy(&numbers, list);
+    list.copy_from_slice(&numbers);
     Ok(())
 }
 

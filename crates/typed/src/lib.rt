@@ -98,7 +98,8 @@ fn next_fraction(m: u64, k: usize, b: u8) -> Part
     }
 }
 
-// One byte more.
+// One byte more. Put into its caller, as the next one is: with a call for each byte a mark takes longer.
+#[inline(always)]
 fn step_part(s: Part, b: u8) -> Part
     ensures { result ≡ step_part s b }
 {
@@ -113,6 +114,7 @@ fn step_part(s: Part, b: u8) -> Part
 
 // The parts of a text with no sign.
 #[tactic(auto, using(crate::proofs::Parts::run_next, crate::proofs::Parts::run_end), unfolding(crate::specs::Typed::part_of))]
+#[inline(always)]
 fn read_part(text: &[u8]) -> Part
     ensures { result ≡ part_of text.now }
 {
