@@ -1,7 +1,8 @@
 // The inner doors of sheet, for the calls above that take a sheet list: the list judged with the air column lent, its columns read by kelvin, and a whole sheet put into it.
-ghost use Rattle.std.specs.Prelude.{◌≡◌, IfOk, ◌+◌, ◌-◌, ◌*◌, ◌≤◌, ◌<◌, get_or};
+ghost use Rattle.std.specs.Prelude.{◌≡◌, IfOk, ◌+◌, ◌-◌, ◌*◌, ◌≤◌, ◌<◌, length, get_or};
 ghost use Rattle.rows.specs.Limits.{first_kelvin, last_kelvin};
 ghost use Rattle.rows.specs.Rows.{rows_h};
+ghost use Rattle.sheet_text.specs.Limits.{sheet_numbers};
 ghost use Rattle.sheet.specs.Sheet.{o2, co2, h2o};
 ghost use Rattle.refusal.specs.Refusals.{told_as};
 ghost use Rattle.sheet.specs.Answers.{judge_told};
@@ -66,9 +67,10 @@ pub fn h2o_at(list: &[u32; NUMBERS], kelvin: u64) -> u64
     gas_at(list, kelvin, 2)
 }
 
-// Writes the numbers of a whole sheet into the lent list.
-pub fn copy(numbers: &[u32; NUMBERS], list: &mut [u32; NUMBERS])
+// Writes the numbers of a whole sheet into the lent list, which has as many places.
+pub fn copy(numbers: &[u32; NUMBERS], list: &mut [u32])
+    requires { length list.old ≡ sheet_numbers }
     ensures { list.new ≡ numbers.now }
 {
-    list.copy_from_slice(numbers);
+    list[..NUMBERS].copy_from_slice(numbers);
 }

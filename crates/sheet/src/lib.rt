@@ -33,7 +33,7 @@ pub fn read_sheet(text: &[u8], list: &mut [u32]) -> Result<(), Refusal>
     if !sheet_text::whole_sheet(s) {
         return Err(Refusal::Form(sheet_text::row_of(s)));
     }
-    list.copy_from_slice(&numbers);
+    inner::copy(&numbers, list);
     Ok(())
 }
 

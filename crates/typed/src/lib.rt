@@ -98,7 +98,7 @@ fn next_fraction(m: u64, k: usize, b: u8) -> Part
     }
 }
 
-// One byte more. Put into its caller, as the next one is: with a call for each byte a mark takes longer.
+// One byte more. It and the next function are put into their callers: with a call for each number, or each byte, a mark takes longer.
 #[inline(always)]
 fn step_part(s: Part, b: u8) -> Part
     ensures { result ≡ step_part s b }
