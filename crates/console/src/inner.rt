@@ -1,4 +1,4 @@
-// The inner doors of console, for the programs beside it: answers over a sheet that was judged when it was read, with the columns of Table 1 lent, which a program builds once.
+// The inner doors of console: answers over a sheet, accepted or refused, and over one with the list that it was judged on, as the programs beside it ask, with the columns of Table 1 lent, which a program builds once.
 ghost use Rattle.std.specs.Prelude.{◌≡◌};
 ghost use Rattle.text.specs.Puts.{WroteAtMost};
 ghost use Rattle.walk.specs.Walk.{course, paper_walk};
@@ -18,8 +18,21 @@ use sheet::AcceptedSheet;
 use text::Pen;
 use walk::Course;
 
-// The answer to a request line, its line feed with it, over a sheet that was judged when it was read.
-pub fn answer_judged(line: &[u8], judged: JudgedSheet<'_>, table: Table<'_>, pen: &mut Pen<'_>)
+// The answer to a request line, its line feed with it, over a sheet, accepted or refused.
+pub fn answer_judged(
+    line: &[u8],
+    sheet: Result<AcceptedSheet<'_>, Refusal>,
+    table: Table<'_>,
+    pen: &mut Pen<'_>,
+)
+    ensures { WroteAtMost answer_room (answer_of (verdict_in sheet.entry) (list_in sheet.entry) line.now) pen.old pen.new }
+{
+    put_reply(line, sheet, table, pen);
+    pen.put_byte(b'\n');
+}
+
+// The same over a sheet with the list that it was judged on, as the programs ask it: a refusal that is told is the judge's.
+pub fn answer_with_list(line: &[u8], judged: JudgedSheet<'_>, table: Table<'_>, pen: &mut Pen<'_>)
     ensures { WroteAtMost answer_room (answer_of (verdict_in judged.entry.sheet) (list_in judged.entry.sheet) line.now) pen.old pen.new }
 {
     put_reply(line, judged.sheet, table, pen);
@@ -44,8 +57,22 @@ fn put_reply(
     replies::reply(requests::request_of(word), rest, sheet, table, pen);
 }
 
-// The printed walk over a sheet that was judged when it was read.
+// The printed walk over a sheet, accepted or refused.
 pub fn print_judged(
+    charge: Charge,
+    t: Millikelvin,
+    steps: &[i64],
+    sheet: Result<AcceptedSheet<'_>, Refusal>,
+    pen: &mut Pen<'_>,
+) -> Result<Course, Refusal>
+    ensures puts { WroteAtMost page_room (printed_walk (walk_told (verdict_in sheet.entry) (list_in sheet.entry) charge t.0 steps.now)) pen.old pen.new }
+    ensures answer_value { paper_walk result ≡ course (walk_told (verdict_in sheet.entry) (list_in sheet.entry) charge t.0 steps.now) }
+{
+    walks::show(Layout::Page, charge, t, steps, sheet, pen)
+}
+
+// The same over a sheet with the list that it was judged on.
+pub fn print_with_list(
     charge: Charge,
     t: Millikelvin,
     steps: &[i64],

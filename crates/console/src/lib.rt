@@ -47,7 +47,7 @@ pub fn answer(line: &[u8], sheet: &[u32], out: &mut [u8], at: usize) -> usize
         list: sheet,
     };
     let mut pen = Pen { buf: out, at };
-    inner::answer_judged(line, judged, table, &mut pen);
+    inner::answer_with_list(line, judged, table, &mut pen);
     pen.at
 }
 
@@ -69,6 +69,6 @@ pub fn print_walk(
         list: sheet,
     };
     let mut pen = Pen { buf: out, at };
-    let _ = inner::print_judged(charge, t, steps, judged, &mut pen);
+    let _ = inner::print_with_list(charge, t, steps, judged, &mut pen);
     pen.at
 }

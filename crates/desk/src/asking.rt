@@ -118,7 +118,12 @@ fn put_held(held: Held, line: &[u8], judged: JudgedSheet<'_>, table: Table<'_>, 
     ensures { WroteAtMost answer_room (held_answer (verdict_in judged.entry.sheet) (list_in judged.entry.sheet) held line.now) pen.old pen.new }
 {
     match held {
-        Some(n) => console::inner::answer_judged(lines::first_bytes(n, line), judged, table, pen),
+        Some(n) => console::inner::answer_with_list(
+            lines::first_bytes(n, line),
+            judged,
+            table,
+            pen,
+        ),
         None => pen.put_text(b"error\tthe line is too long\n"),
     }
 }

@@ -62,6 +62,6 @@ fn example() -> [u8; pages::EXAMPLE_ROOM]
 // Prints the built-in example, and how to go on.
 pub(crate) fn print_example<W: Print, E: Print>(to: &W, errors: &E, judged: JudgedSheet<'_>) {
     let mut out = example();
-    let end = pages::put_example(judged, &mut out);
+    let end = pages::put_example_with_list(judged, &mut out);
     stream::flush(to, errors, &out, Some(end));
 }

@@ -128,7 +128,7 @@ fn print_walk<W: Print, E: Print>(
     requires { 1 ≤ lines }
 {
     let mut out = page();
-    let printed = questions::put_page(lines, numbers, judged, &mut out, 0);
+    let printed = questions::put_page_with_list(lines, numbers, judged, &mut out, 0);
     stream::flush(to, errors, &out, Some(printed.end));
     say_refusal(errors, judged.sheet.map(|_| ()), printed.answer);
 }

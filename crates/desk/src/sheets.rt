@@ -112,7 +112,7 @@ fn sheet_places() -> [u8; sheet_text::MOST_TEXT]
 pub(crate) fn write<W: Print, E: Print>(to: &W, errors: &E, judged: JudgedSheet<'_>) {
     let mut out = sheet_places();
     let verdict = judged.sheet.map(|_| ());
-    let end = sheets::put_sheet(verdict, judged.list, &mut out);
+    let end = sheets::put_sheet_with_list(verdict, judged.list, &mut out);
     stream::flush(to, errors, &out, Some(end));
     pages::say_verdict(errors, verdict);
 }

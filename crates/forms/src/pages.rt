@@ -12,6 +12,7 @@ ghost use Rattle.forms.specs.Pages.{usage_text, example_page, version_text, misp
 use air::Millikelvin;
 use console::inner::JudgedSheet;
 use refusal::Refusal;
+use sheet::AcceptedSheet;
 use text::Pen;
 use walk::Course;
 
@@ -73,15 +74,29 @@ pub fn put_no_form(out: &mut [u8]) -> usize
     pen.at
 }
 
-// Document 01's walk, A 1, no fuel, from 200,000 mK, and how to go on.
-pub fn put_example(judged: JudgedSheet<'_>, out: &mut [u8]) -> usize
+// Document 01's walk, A 1, no fuel, from 200,000 mK, and how to go on, over a sheet, accepted or refused.
+pub fn put_example(sheet: Result<AcceptedSheet<'_>, Refusal>, out: &mut [u8]) -> usize
+    requires { example_room ≤ length out.old }
+    ensures { Stands (example_page (verdict_in sheet.entry) (list_in sheet.entry)) out.old 0 result out.new }
+{
+    let steps: [i64; 8] = [0, 0, 0, 1_200_000_001, 0, 0, 0, 2_400_000];
+    let start = burning::inner::charge_in(&[1i64, 0, 0]);
+    let mut pen = Pen { buf: out, at: 0 };
+    let _ = console::inner::print_judged(start, Millikelvin(200_000), &steps, sheet, &mut pen);
+    pen.put_byte(10);
+    put_usage(&mut pen);
+    pen.at
+}
+
+// The same over a sheet with the list that it was judged on, as the program prints it.
+pub fn put_example_with_list(judged: JudgedSheet<'_>, out: &mut [u8]) -> usize
     requires { example_room ≤ length out.old }
     ensures { Stands (example_page (verdict_in judged.entry.sheet) (list_in judged.entry.sheet)) out.old 0 result out.new }
 {
     let steps = [0i64, 0, 0, 1_200_000_001, 0, 0, 0, 2_400_000];
     let start = burning::inner::charge_in(&[1i64, 0, 0]);
     let mut pen = Pen { buf: out, at: 0 };
-    let _ = console::inner::print_judged(start, Millikelvin(200_000), &steps, judged, &mut pen);
+    let _ = console::inner::print_with_list(start, Millikelvin(200_000), &steps, judged, &mut pen);
     pen.put_byte(10);
     put_usage(&mut pen);
     pen.at

@@ -12,6 +12,7 @@ ghost use Rattle.forms.specs.inner.Taking.{one_more, kept_line, with_next, numbe
 use air::Millikelvin;
 use console::inner::JudgedSheet;
 use refusal::Refusal;
+use sheet::AcceptedSheet;
 use text::Pen;
 use walk::Course;
 
@@ -99,8 +100,32 @@ fn kept(lines: u64) -> usize
     lines.min(KEPT_LINES) as usize
 }
 
-// The printed walk of a question of so many lines: the whole page stands in the buffer. What the walk came to is answered with its end.
+// The printed walk of a question of so many lines over a sheet, accepted or refused: the whole page stands in the buffer. What the walk came to is answered with its end.
 pub fn put_page(
+    lines: u64,
+    numbers: &[i64; KEPT_NUMBERS],
+    sheet: Result<AcceptedSheet<'_>, Refusal>,
+    out: &mut [u8],
+    at: usize,
+) -> Printed
+    requires { (1 ≤ lines) × (at + page_room ≤ length out.old) }
+    ensures stands { Stands (printed_walk (question_told (verdict_in sheet.entry) (list_in sheet.entry) lines numbers.now)) out.old at result.end out.new }
+    ensures answer_value { paper_walk result.answer ≡ course (question_told (verdict_in sheet.entry) (list_in sheet.entry) lines numbers.now) }
+{
+    let start = burning::inner::charge_in(numbers);
+    let t = Millikelvin(numbers[burning::inner::CHARGE_NUMBERS]);
+    let end: usize = walk::STEP_NUMBERS * kept(lines);
+    let steps = &numbers[walk::STEP_NUMBERS..end];
+    let mut pen = Pen { buf: out, at };
+    let answer = console::inner::print_judged(start, t, steps, sheet, &mut pen);
+    Printed {
+        end: pen.at,
+        answer,
+    }
+}
+
+// The same over a sheet with the list that it was judged on, as the program prints it.
+pub fn put_page_with_list(
     lines: u64,
     numbers: &[i64; KEPT_NUMBERS],
     judged: JudgedSheet<'_>,
@@ -116,7 +141,7 @@ pub fn put_page(
     let end = walk::STEP_NUMBERS * kept(lines);
     let steps = &numbers[walk::STEP_NUMBERS..end];
     let mut pen = Pen { buf: out, at };
-    let answer = console::inner::print_judged(start, t, steps, judged, &mut pen);
+    let answer = console::inner::print_with_list(start, t, steps, judged, &mut pen);
     Printed {
         end: pen.at,
         answer,

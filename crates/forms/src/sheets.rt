@@ -5,7 +5,7 @@ ghost use Rattle.text.specs.Puts.{Stands, WroteAtMost};
 ghost use Rattle.sheet_text.specs.Limits.{most_text};
 ghost use Rattle.sheet.specs.Pieces.{closed};
 ghost use Rattle.wording.specs.Limits.{refusal_room};
-ghost use Rattle.console.specs.Answers.{Judged, JudgedAfter, verdict_in};
+ghost use Rattle.console.specs.Answers.{Judged, JudgedAfter, verdict_in, list_in};
 ghost use Rattle.forms.specs.Limits.{report_room};
 ghost use Rattle.forms.specs.Sheets.{goes_on, Takes, verdict_words, verdict_line, written_page, Reported};
 
@@ -104,8 +104,27 @@ pub fn report(reading: SheetReading, list: &[u32; sheet::NUMBERS], out: &mut [u8
     }
 }
 
-// The text of a sheet, or the line of its refusal: the whole of it stands in the buffer.
-pub fn put_sheet(verdict: Result<(), Refusal>, list: &[u32], out: &mut [u8]) -> usize
+// The text of an accepted sheet, or the line of its refusal: the whole of it stands in the buffer.
+pub fn put_sheet(sheet: Result<AcceptedSheet<'_>, Refusal>, out: &mut [u8]) -> usize
+    requires { most_text ≤ length out.old }
+    ensures { Stands (written_page (verdict_in sheet.entry) (list_in sheet.entry)) out.old 0 result out.new }
+{
+    match sheet {
+        Ok(sheet) => {
+            let bytes = writing::text_length(sheet.list);
+            writing::write_text(sheet.list, bytes, out);
+            bytes
+        }
+        Err(refusal) => {
+            let mut pen = Pen { buf: out, at: 0 };
+            put_verdict(Err(refusal), &mut pen);
+            pen.at
+        }
+    }
+}
+
+// The same of a verdict and the list that it was given on, as the program writes it.
+pub fn put_sheet_with_list(verdict: Result<(), Refusal>, list: &[u32], out: &mut [u8]) -> usize
     requires { ∥ Judged verdict list.now ∥₁ × (most_text ≤ length out.old) }
     ensures { Stands (written_page verdict list.now) out.old 0 result out.new }
 {

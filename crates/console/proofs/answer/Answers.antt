@@ -7,5 +7,5 @@ use Rattle.console.proofs.answer.Goals as goal
 pub returns : goal.returns
 returns c =
     let p = rw (answer_judged_lem c.args.sheet.now c.judge-found.result c.judge-found.ensures.told c.judge-found.ensures.same c.args.line.now)
-    at (wrote_puts c.answer_judged.ensures) in
-    search (rules, p, c.answer_judged.ensures.same)
+    at (wrote_puts c.answer_with_list.ensures) in
+    search (rules, p, c.answer_with_list.ensures.same)

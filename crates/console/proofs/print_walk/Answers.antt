@@ -7,5 +7,5 @@ use Rattle.console.proofs.print_walk.Goals as goal
 pub returns : goal.returns
 returns c =
     let p = rw (printed_judged c.args.sheet.now c.judge-found.result c.judge-found.ensures.told c.judge-found.ensures.same c.args.charge c.args.t.0 c.args.steps.now)
-    at (wrote_puts c.print_judged.ensures.puts) in
-    search (rules, p, c.print_judged.ensures.puts.same)
+    at (wrote_puts c.print_with_list.ensures.puts) in
+    search (rules, p, c.print_with_list.ensures.puts.same)
