@@ -86,27 +86,17 @@ fn questions(rt: HostRuntime) {
     let heats = rows::columns::heat_column();
     let list = built_in::sheet();
     let mut numbers = questions::places();
-    let asked = [
-        100_000i64,
-        0,
-        0,
-        400_000,
-        21_500,
-        41_429,
-        1_030_000,
-        0,
-        0,
-        0,
-        0,
-        -1_000_000_000_000_000,
-        40_000,
-        0,
-        1_030_000,
-        0,
+    let asked: [&[u8]; 4] = [
+        b"100000\t0\t0\t400000",
+        b"21500\t41429\t1030000\t0",
+        b"0\t0\t0\t-1000000000000000",
+        b"40000\t0\t1030000\t0",
     ];
-    for (i, number) in asked.iter().enumerate() {
-        numbers[i] = *number;
+    let mut question = Ok(0);
+    for line in asked {
+        question = questions::take(question, line, &mut numbers);
     }
+    assert_eq!(rt; question.ok(), Some(4));
     let listing: &[u8] =
         b"step\tmK\trest\tlooks\n1\t1465757\t256259589792\t10\n2\t1462571\t224730913996\t11\nrefused\t4\n";
     let judged = sheet::inner::judge(&list, &heats);
